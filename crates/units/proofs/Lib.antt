@@ -1,0 +1,5 @@
+-- Laws of the units that belong to no one function.
+pub mod Choice
+pub mod Held
+pub mod Signed
+pub mod Stamps

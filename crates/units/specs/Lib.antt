@@ -1,0 +1,4 @@
+pub mod Exactly
+pub mod Limits
+pub mod Product
+pub mod Standing

@@ -1,0 +1,48 @@
+-- The limits of a head: as the code tests them, and as facts.
+use Prim.Native.Nat.{_≤_}
+use mathlib.Core.Path.{_≡_, refl, sym, ap, ap₂, _∙_}
+use mathlib.Core.Bool.{Bool, true, _&&_, and-eq-true-iff}
+use borrow.Author.Tests.{leb-true, le-leb}
+use lib.Dec.{leb}
+use Rattle.units.specs.Exactly.{Exactly}
+use Rattle.units.specs.Limits.{largestTick, largestMillis, largestTimescale, largestNumber, tickHeld, millisHeld, timescaleHeld, numberHeld}
+use Rattle.window.specs.declared.Head.{Head}
+use Rattle.window.specs.Limits.{headHeld, Held}
+
+pub tests-held : (h : Head) (t o s d p f : Bool) → t ≡ timescaleHeld (h .timescale) → o ≡ tickHeld (h .offset) → s ≡ millisHeld (h .start) →
+    d ≡ millisHeld (h .duration) → p ≡ millisHeld (h .depth) → f ≡ numberHeld (h .first) → (t && o && s && d && p && f) ≡ headHeld h
+tests-held h t o s d p f et eo es ed ep ef = ap₂ _&&_ (ap₂ _&&_ (ap₂ _&&_ (ap₂ _&&_ (ap₂ _&&_ et eo) es) ed) ep) ef
+
+-- the test is right
+pub held-is : (h : Head) → Exactly (headHeld h) (Held h)
+held-is h = record { only = only; if = if }
+  where
+    only : headHeld h ≡ true → Held h
+    only e =
+        let a = and-eq-true-iff _ _ .0 e in
+        let b = and-eq-true-iff _ _ .0 (a .0) in
+        let c = and-eq-true-iff _ _ .0 (b .0) in
+        let d = and-eq-true-iff _ _ .0 (c .0) in
+        let t = and-eq-true-iff _ _ .0 (d .0) in
+        let k = and-eq-true-iff _ _ .0 (t .0) in
+        record {
+          some = leb-true 1 (h .timescale .0) (k .0);
+          timescale = leb-true (h .timescale .0) largestTimescale (k .1);
+          offset = leb-true (h .offset .0) largestTick (t .1);
+          start = leb-true (h .start .0) largestMillis (d .1);
+          duration = leb-true (h .duration .0) largestMillis (c .1);
+          depth = leb-true (h .depth .0) largestMillis (b .1);
+          first = leb-true (h .first .0) largestNumber (a .1);
+        }
+
+    if : Held h → headHeld h ≡ true
+    if k =
+        simp (
+          le-leb 1 (h .timescale .0) (k .some),
+          le-leb (h .timescale .0) largestTimescale (k .timescale),
+          le-leb (h .offset .0) largestTick (k .offset),
+          le-leb (h .start .0) largestMillis (k .start),
+          le-leb (h .duration .0) largestMillis (k .duration),
+          le-leb (h .depth .0) largestMillis (k .depth),
+          le-leb (h .first .0) largestNumber (k .first),
+        )

@@ -1,0 +1,5 @@
+pub mod Limits
+pub mod Place
+pub mod Window
+pub mod References
+pub mod Ticks
