@@ -19,7 +19,6 @@ use Rattle.units.specs.declared.SpanMade.the-variants as span
 use Rattle.units.specs.declared.Number.{Number}
 use Rattle.units.specs.declared.NumberMade.{NumberMade}
 use Rattle.units.specs.declared.NumberMade.the-variants as number
-use Rattle.units.specs.declared.Grain.{Grain}
 use Rattle.units.specs.declared.GrainMade.{GrainMade}
 use Rattle.units.specs.declared.GrainMade.the-variants as grain
 

@@ -2,25 +2,24 @@
 -- window needs, the least count that reaches the period end.
 use mathlib.Core.Path.{_≡_, refl, sym, ap, ap₂, _∙_}
 use mathlib.Core.Bool.{Bool, true, false, cond, _&&_, and-eq-true-iff, false≢true}
-use Prim.Native.Nat.{ℕ, suc, _+_, _-_, _*_, _/_, _≤_, _<_, min, max}
+use Prim.Native.Nat.{ℕ, _+_, _-_, _*_, _/_, _≤_, _<_, min, max}
 use native.Mathlib.Nat.{mul-assoc, mul-comm, add-mul, one-mul, mul-le-mul-right, div-mul-le-self, div-le-self, lt-div-mul-add, add-zero, le-of-lt}
 use native.Mathlib.Omega.{arith}
-use borrow.Author.Tests.{leb-true, leb-false, ltb-true, ltb-false, eqb-false, eq-eqb, ne-eqb, le-leb, lt-leb, lt-ltb, le-ltb}
-use lib.Dec.{leb, ltb, eqb}
-use lib.IntN.{ℤ, pos}
-use lib.Signed.{leZ}
+use borrow.Author.Tests.{leb-true, leb-false, ltb-true, le-leb, lt-leb, lt-ltb, le-ltb}
+use lib.Dec.{leb, ltb}
+use lib.IntN.{ℤ}
 use mir.Syntax.{w64}
 use mir.Val.{Fits}
 use Rattle.units.specs.Limits.{largestTick, largestMillis, largestTimescale}
 use Rattle.units.specs.Product.{Product}
-use Rattle.units.proofs.Signed.{up, is-pos, le-is, same-leb}
+use Rattle.units.proofs.Signed.{up, is-pos, le-is}
 use Rattle.window.specs.declared.Head.{Head}
 use Rattle.window.specs.declared.Needed.{Needed}
 use Rattle.window.specs.declared.Needed.the-variants.{Nothing, Ticks}
 use Rattle.window.specs.declared.Passed.the-variants.{All, Upto}
-use Rattle.window.specs.Place.{Past, endKnown, periodEnd, place, later, beforeEnd, endedBy}
+use Rattle.window.specs.Place.{Past, endKnown, periodEnd, place, beforeEnd, endedBy}
 use Rattle.window.specs.Window.{inside, lowEdge, highEdge, windowAt, wholePeriod, passed, tickNeeded}
-use Rattle.window.specs.Ticks.{EndsPassed, NeededTicks, named, LeastCount, reachesEnd}
+use Rattle.window.specs.Ticks.{EndsPassed, NeededTicks, LeastCount, reachesEnd}
 use Rattle.window.proofs.Unsigned.{endAt, placeN, lowN, cutN, highN, later-start, low-is, high-up, passed-is, tick-is, window-inside, place-is, starts-before, not-known, is-known}
 
 -- two tests that are true of the same numbers are one

@@ -1,9 +1,7 @@
 -- The limits of a head: as the code tests them, and as facts.
-use Prim.Native.Nat.{_≤_}
-use mathlib.Core.Path.{_≡_, refl, sym, ap, ap₂, _∙_}
+use mathlib.Core.Path.{_≡_, ap₂}
 use mathlib.Core.Bool.{Bool, true, _&&_, and-eq-true-iff}
 use borrow.Author.Tests.{leb-true, le-leb}
-use lib.Dec.{leb}
 use Rattle.units.specs.Exactly.{Exactly}
 use Rattle.units.specs.Limits.{largestTick, largestMillis, largestTimescale, largestNumber, tickHeld, millisHeld, timescaleHeld, numberHeld}
 use Rattle.window.specs.declared.Head.{Head}

@@ -1,20 +1,20 @@
 -- What the code computes for the edges of the window and for the period end is what the definitions say.
-use mathlib.Core.Path.{_≡_, refl, sym, ap, ap₂, _∙_}
-use mathlib.Core.Bool.{Bool, true, false, cond, not}
+use mathlib.Core.Path.{_≡_, sym, ap, ap₂, _∙_}
+use mathlib.Core.Bool.{true, cond}
 use Prim.Native.Nat.{ℕ, _+_, _-_, _*_, _≤_, _<_, min}
 use native.Mathlib.Nat.{mul-sub, mul-comm, sub-eq-zero-of-le, mul-le-mul-right, min-eq-left, min-eq-right, min-zero, le-of-lt}
 use native.Mathlib.Omega.{arith}
-use borrow.Author.Tests.{eq-eqb, ne-eqb, le-leb}
-use lib.Dec.{leb, ltb, eqb}
+use borrow.Author.Tests.{eq-eqb, ne-eqb}
+use lib.Dec.{ltb, eqb}
 use lib.IntN.{ℤ, pos}
 use Rattle.units.proofs.Signed.{up}
 use Rattle.units.proofs.Choice.{either}
 use Rattle.units.specs.Limits.{largestMillis, largestTimescale}
 use Rattle.units.specs.Product.{Product}
 use Rattle.window.specs.declared.Head.{Head}
-use Rattle.window.specs.Place.{Past, later, endKnown, beforeEnd}
+use Rattle.window.specs.Place.{Past, endKnown, beforeEnd}
 use Rattle.window.specs.Window.{lowEdge, highEdge}
-use Rattle.window.proofs.Unsigned.{endAt, placeN, lowN, cutN, highN, later-start, low-is, high-up, before-is}
+use Rattle.window.proofs.Unsigned.{endAt, sinceStart, sinceDepth, lowN, cutN, highN, later-start, low-is, high-up, before-is, not-known, is-known}
 
 sub-mul : (a b n : ℕ) → (a - b) * n ≡ a * n - b * n
 sub-mul a b n = mul-comm (a - b) n ∙ mul-sub n a b ∙ ap₂ _-_ (mul-comm n a) (mul-comm n b)
@@ -32,49 +32,47 @@ module _ (h : Head) (c : ℕ) where
   low r e s = past (lowEdge h c) r (e ∙ sym (ap up (low-is h c))) s
 
   pub low-none : h .depth .0 ≡ 0 → Past 0 (lowEdge h c)
-  low-none e =
-      low 0
-      (sym (ap (λ t. cond t 0 (c * h .timescale .0 - (h .depth .0 + h .start .0) * h .timescale .0)) (eq-eqb (h .depth .0) 0 e)))
-      (omega arith)
+  low-none e = low 0 (sym (ap (λ t. cond t 0 (sinceDepth h c)) (eq-eqb (h .depth .0) 0 e))) (omega arith)
 
   pub low-early : c ≤ h .depth .0 + h .start .0 → Past 0 (lowEdge h c)
   low-early l =
-      low 0
-      (sym
-      (ap (cond (eqb (h .depth .0) 0) 0) (none-left c (h .depth .0 + h .start .0) (h .timescale .0) l) ∙
-      either (eqb (h .depth .0) 0) 0))
-      (omega arith)
+      let none : sinceDepth h c ≡ 0 = none-left c (h .depth .0 + h .start .0) (h .timescale .0) l in
+      low 0 (sym (ap (cond (eqb (h .depth .0) 0) 0) none ∙ either (eqb (h .depth .0) 0) 0)) (omega arith)
 
-  pub low-past : (r : ℕ) → (h .depth .0 ≡ 0 → ⊥) → Product r (c - (h .depth .0 + h .start .0)) (h .timescale .0) (largestMillis * largestTimescale) →
-      Past r (lowEdge h c)
+  pub low-past : (r : ℕ) → (h .depth .0 ≡ 0 → ⊥) → Product r (c - (h .depth .0 + h .start .0)) (h .timescale .0) (largestMillis * largestTimescale) → Past r (lowEdge h c)
   low-past r n p =
-      low r
-      (p .is ∙
-      sub-mul c (h .depth .0 + h .start .0) (h .timescale .0) ∙
-      sym (ap (λ t. cond t 0 (c * h .timescale .0 - (h .depth .0 + h .start .0) * h .timescale .0)) (ne-eqb (h .depth .0) 0 n)))
-      (p .small)
+      let e : r ≡ sinceDepth h c = p .is ∙ sub-mul c (h .depth .0 + h .start .0) (h .timescale .0) in
+      low r (e ∙ sym (ap (λ t. cond t 0 (sinceDepth h c)) (ne-eqb (h .depth .0) 0 n))) (p .small)
 
   -- ---- the upper edge
 
   high : (r : ℕ) → r ≡ highN h c → r ≤ largestMillis * largestTimescale → Past r (highEdge h c)
   high r e s = past (highEdge h c) r (e ∙ sym (high-up h c)) s
 
+  -- the cut, by whether the end is known
+  cut-open : (x : ℕ) → h .duration .0 ≡ 0 → cutN h x ≡ x
+  cut-open x e = ap (λ t. cond t (min (endAt h) x) x) (not-known h e)
+
+  cut-known : (x : ℕ) → (h .duration .0 ≡ 0 → ⊥) → cutN h x ≡ min (endAt h) x
+  cut-known x n = ap (λ t. cond t (min (endAt h) x) x) (is-known h n)
+
   pub high-early : c ≤ h .start .0 → Past 0 (highEdge h c)
-  high-early l = high 0 (sym (ap (cutN h) (none-left c (h .start .0) (h .timescale .0) l) ∙ ap (λ n. cond (endKnown h) n 0) (min-zero (endAt h)) ∙ either (endKnown h) 0)) (omega arith)
+  high-early l =
+      let none : sinceStart h c ≡ 0 = none-left c (h .start .0) (h .timescale .0) l in
+      let cut : cutN h 0 ≡ 0 = ap (λ n. cond (endKnown h) n 0) (min-zero (endAt h)) ∙ either (endKnown h) 0 in
+      high 0 (sym (ap (cutN h) none ∙ cut)) (omega arith)
 
   -- what is known of a clock past the period start
   module _ (r : ℕ) (p : Product r (c - h .start .0) (h .timescale .0) (largestMillis * largestTimescale)) where
-    upto : r ≡ c * h .timescale .0 - h .start .0 * h .timescale .0
+    upto : r ≡ sinceStart h c
     upto = p .is ∙ sub-mul c (h .start .0) (h .timescale .0)
 
     pub high-open : h .duration .0 ≡ 0 → Past r (highEdge h c)
-    high-open e = high r (upto ∙ sym (ap (λ t. cond (not t) (min (endAt h) (c * h .timescale .0 - h .start .0 * h .timescale .0)) (c * h .timescale .0 - h .start .0 * h .timescale .0)) (eq-eqb (h .duration .0) 0 e))) (p .small)
+    high-open e = high r (upto ∙ sym (cut-open (sinceStart h c) e)) (p .small)
 
     module _ (e : ℕ) (n : h .duration .0 ≡ 0 → ⊥) (q : Product e (h .duration .0) (h .timescale .0) (largestMillis * largestTimescale)) where
       ends : highN h c ≡ min e r
-      ends =
-          ap (λ t. cond (not t) (min (endAt h) (c * h .timescale .0 - h .start .0 * h .timescale .0)) (c * h .timescale .0 - h .start .0 * h .timescale .0)) (ne-eqb (h .duration .0) 0 n) ∙
-          ap₂ min (sym (q .is)) (sym upto)
+      ends = cut-known (sinceStart h c) n ∙ ap₂ min (sym (q .is)) (sym upto)
 
       pub high-end : e < r → Past e (highEdge h c)
       high-end l = high e (sym (ends ∙ min-eq-left (le-of-lt l))) (q .small)
@@ -85,10 +83,10 @@ module _ (h : Head) (c : ℕ) where
   -- ---- the period end
 
   pub before-open : h .duration .0 ≡ 0 → true ≡ beforeEnd h c
-  before-open e = sym (before-is h c ∙ ap (λ t. cond (not t) (ltb (c * 1000) (h .offset .0 * 1000 + endAt h)) true) (eq-eqb (h .duration .0) 0 e))
+  before-open e = sym (before-is h c ∙ ap (λ t. cond t (ltb (c * 1000) (h .offset .0 * 1000 + endAt h)) true) (not-known h e))
 
-  pub before-ends : (e o p a b d : ℕ) → (h .duration .0 ≡ 0 → ⊥) → Product e (h .duration .0) (h .timescale .0) a → Product o (h .offset .0) 1000 b →
-      Product p c 1000 d → ltb p (o + e) ≡ beforeEnd h c
-  before-ends e o p a b d n x y z =
+  pub before-ends : (e o p a b : ℕ) → (h .duration .0 ≡ 0 → ⊥) → Product e (h .duration .0) (h .timescale .0) (largestMillis * largestTimescale) → Product o (h .offset .0) 1000 a →
+      Product p c 1000 b → ltb p (o + e) ≡ beforeEnd h c
+  before-ends e o p a b n x y z =
       ap₂ ltb (z .is) (ap₂ _+_ (y .is) (x .is)) ∙
-      sym (before-is h c ∙ ap (λ t. cond (not t) (ltb (c * 1000) (h .offset .0 * 1000 + endAt h)) true) (ne-eqb (h .duration .0) 0 n))
+      sym (before-is h c ∙ ap (λ t. cond t (ltb (c * 1000) (h .offset .0 * 1000 + endAt h)) true) (is-known h n))

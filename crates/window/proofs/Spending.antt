@@ -1,15 +1,14 @@
 -- Spent, as the paper says it, and the comparison that decides it are one, for a reference that starts before the period
 -- end. Spent stays spent at later clocks, and what ends earlier is spent earlier, so spent references stand first.
-use mathlib.Core.Path.{_≡_, refl, sym, ap, ap₂, _∙_}
+use mathlib.Core.Path.{_≡_, refl, sym, ap₂, _∙_}
 use mathlib.Core.Bool.{Bool, true, false, cond}
-use mathlib.Core.Logic.{⊎-elim}
-use Prim.Native.Nat.{ℕ, zero, suc, _+_, _-_, _*_, _/_, _≤_, _<_, min, max}
+use Prim.Native.Nat.{ℕ, suc, _+_, _-_, _*_, _/_, _≤_, _<_, min, max}
 use native.Mathlib.Nat.{mul-le-mul-right, add-mul, one-mul, div-mul-le-self, lt-div-mul-add, le-refl, le-trans, le-of-lt, lt-of-le-of-lt}
 use native.Mathlib.Omega.{arith}
 use mathlib.Core.List.{List, [], _∷_}
 use lib.ListN.{take, drop}
-use borrow.Author.Tests.{leb-true, leb-false, eqb-true, eqb-false, ltb-true, le-ltb, lt-ltb, lt-leb, le-leb}
-use lib.Dec.{leb, ltb, eqb}
+use borrow.Author.Tests.{leb-true, leb-false, eqb-false, le-ltb, lt-ltb, le-leb}
+use lib.Dec.{leb, eqb}
 use Rattle.units.specs.Exactly.{Exactly}
 use Rattle.window.specs.declared.Head.{Head}
 use Rattle.window.specs.declared.Reference.{Reference}

@@ -12,7 +12,7 @@ use Rattle.window.specs.declared.Passed.the-variants.{All, Upto}
 use Rattle.window.specs.declared.Needed.{Needed}
 use Rattle.window.specs.declared.Needed.the-variants.{Nothing, Ticks}
 use Rattle.window.specs.Window.{Stretch}
-use Rattle.window.specs.Ticks.{reached, EndsPassed, named, NamesSome, NeededTicks, LeastCount, reachesEnd}
+use Rattle.window.specs.Ticks.{reached, EndsPassed, named, NamesSome, NeededTicks, LeastCount}
 
 -- ---- ends
 

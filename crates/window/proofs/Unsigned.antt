@@ -3,19 +3,19 @@
 -- comparison of naturals, which the code makes and omega reads. Facts about grains are proved here, over the timescale.
 use mathlib.Core.Path.{_≡_, refl, sym, ap, ap₂, _∙_}
 use mathlib.Core.Bool.{Bool, true, false, cond, not, false≢true}
-use Prim.Native.Nat.{ℕ, zero, suc, _+_, _-_, _*_, _≤_, _<_, min, max}
+use Prim.Native.Nat.{ℕ, _+_, _-_, _*_, _<_, min, max}
 use native.Mathlib.Nat.{min-eq-left, min-eq-right, max-eq-left, max-eq-right, zero-max, min-zero, zero-min, le-of-lt, zero-add}
 use native.Mathlib.Omega.{arith}
 use borrow.Author.Tests.{leb-true, leb-false, ltb-true, le-ltb, le-leb, eq-eqb, ne-eqb}
-use lib.Dec.{leb, ltb, eqb, leb·zero}
-use lib.IntN.{ℤ, pos, negsuc, _-ℤ_, _*ℤ_}
+use lib.Dec.{leb, ltb, eqb}
+use lib.IntN.{ℤ, pos, negsuc, _-ℤ_}
 use lib.Signed.{leZ, ltZ}
 use Rattle.units.proofs.Choice.{through, either}
-use Rattle.units.proofs.Signed.{Is, up, down, is-pos, is-moved, is-less, is-sub, is-mul, lt-is, same-ltb}
+use Rattle.units.proofs.Signed.{Is, up, is-pos, is-moved, is-less, is-sub, is-mul, lt-is, same-ltb}
 use Rattle.window.specs.declared.Head.{Head}
 use Rattle.window.specs.declared.Reference.{Reference}
 use Rattle.window.specs.Place.{place, moment, endKnown, periodEnd, later, earlier, cutToEnd, beforeEnd}
-use Rattle.window.specs.Window.{Stretch, overlaps, lowEdge, highEdge, windowAt, endOf, needed, passed, tickNeeded}
+use Rattle.window.specs.Window.{overlaps, lowEdge, highEdge, windowAt, endOf, needed, passed, tickNeeded}
 
 -- ---- a point or the period start
 
@@ -78,14 +78,21 @@ module _ (h : Head) where
   abbrev pub placeN : ℕ → ℕ
   placeN k = k * 1000 - h .offset .0 * 1000
 
+  -- from the period start, and from there with the depth, to millisecond c
+  abbrev pub sinceStart : ℕ → ℕ
+  sinceStart c = c * h .timescale .0 - h .start .0 * h .timescale .0
+
+  abbrev pub sinceDepth : ℕ → ℕ
+  sinceDepth c = c * h .timescale .0 - (h .depth .0 + h .start .0) * h .timescale .0
+
   abbrev pub lowN : ℕ → ℕ
-  lowN c = cond (eqb (h .depth .0) 0) 0 (c * h .timescale .0 - (h .depth .0 + h .start .0) * h .timescale .0)
+  lowN c = cond (eqb (h .depth .0) 0) 0 (sinceDepth c)
 
   abbrev pub cutN : ℕ → ℕ
   cutN x = cond (endKnown h) (min endAt x) x
 
   abbrev pub highN : ℕ → ℕ
-  highN c = cutN (c * h .timescale .0 - h .start .0 * h .timescale .0)
+  highN c = cutN (sinceStart c)
 
   pub place-is : (k : ℕ) → Is (place h k) (k * 1000) (h .offset .0 * 1000)
   unfolding place
@@ -109,12 +116,12 @@ module _ (h : Head) where
   unfolding lowEdge
   low-is c =
       let m : ℤ = pos c -ℤ pos (h .depth .0) in
-      let e : up (moment h m) ≡ c * h .timescale .0 - (h .depth .0 + h .start .0) * h .timescale .0 =
+      let e : up (moment h m) ≡ sinceDepth c =
       up-is (moment h m) (c * h .timescale .0) ((h .depth .0 + h .start .0) * h .timescale .0)
       (moment-is m c (h .depth .0) (is-less c (h .depth .0)))
       in
       ap (λ z. cond (eqb (h .depth .0) 0) (pos 0) z) (later-start (moment h m) ∙ ap pos e) ∙
-      sym (through pos (eqb (h .depth .0) 0) 0 (c * h .timescale .0 - (h .depth .0 + h .start .0) * h .timescale .0))
+      sym (through pos (eqb (h .depth .0) 0) 0 (sinceDepth c))
 
   pub high-up : (c : ℕ) → up (highEdge h c) ≡ highN c
   unfolding highEdge

@@ -1,6 +1,6 @@
 -- What the questions about a window are answered with, and when an answer is right. Paper: Window, needed, spent; The file
 -- (negative r).
-use Prim.Native.Nat.{ℕ, _+_, _*_, _≤_, _<_}
+use Prim.Native.Nat.{ℕ, _+_, _*_, _<_}
 use mathlib.Core.Path.{_≡_}
 use mathlib.Core.Bool.{Bool, true, false, _&&_}
 use lib.Dec.{leb, ltb}
