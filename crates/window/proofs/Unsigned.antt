@@ -3,10 +3,10 @@
 -- comparison of naturals, which the code makes and omega reads. Facts about grains are proved here, over the timescale.
 use mathlib.Core.Path.{_≡_, refl, sym, ap, ap₂, _∙_}
 use mathlib.Core.Bool.{Bool, true, false, cond, not, false≢true}
-use Prim.Native.Nat.{ℕ, _+_, _-_, _*_, _<_, min, max}
+use Prim.Native.Nat.{ℕ, _+_, _-_, _*_, _≤_, _<_, min, max}
 use native.Mathlib.Nat.{min-eq-left, min-eq-right, max-eq-left, max-eq-right, zero-max, min-zero, zero-min, le-of-lt, zero-add}
 use native.Mathlib.Omega.{arith}
-use borrow.Author.Tests.{leb-true, leb-false, ltb-true, le-ltb, le-leb, eq-eqb, ne-eqb}
+use borrow.Author.Tests.{leb-true, leb-false, ltb-true, lt-ltb, le-ltb, le-leb, eq-eqb, ne-eqb}
 use lib.Dec.{leb, ltb, eqb}
 use lib.IntN.{ℤ, pos, negsuc, _-ℤ_}
 use lib.Signed.{leZ, ltZ}
@@ -174,6 +174,16 @@ module _ (h : Head) where
       go : (t : Bool) → cond t (ltb (k * 1000) (h .offset .0 * 1000 + endAt)) true ≡ true → t ≡ true → k * 1000 < h .offset .0 * 1000 + endAt
       go true e f = ltb-true (k * 1000) (h .offset .0 * 1000 + endAt) e
       go false e f = absurd (false≢true f)
+
+  -- what lies before a tick that lies before the end lies before it too
+  pub before-earlier : (j k : ℕ) → j ≤ k → beforeEnd h k ≡ true → beforeEnd h j ≡ true
+  before-earlier j k l b = before-is j ∙ go (endKnown h) (sym (before-is k) ∙ b)
+    where
+      go : (t : Bool) → cond t (ltb (k * 1000) (h .offset .0 * 1000 + endAt)) true ≡ true → cond t (ltb (j * 1000) (h .offset .0 * 1000 + endAt)) true ≡ true
+      go true e =
+          let m : k * 1000 < h .offset .0 * 1000 + endAt = ltb-true (k * 1000) (h .offset .0 * 1000 + endAt) e in
+          lt-ltb (j * 1000) (h .offset .0 * 1000 + endAt) (omega arith)
+      go false e = refl
 
   -- ticks against a window whose edges are naturals
   pub tick-is : (a b k : ℕ) → tickNeeded h (record { from = pos a; to = pos b }) k ≡ ltb (max (placeN k) a) (min (placeN (k + 1)) b)

@@ -1,0 +1,6 @@
+-- Laws of agreement that belong to no one function.
+pub mod Runs
+pub mod Zeros
+pub mod Scanning
+pub mod Judging
+pub mod Agreeing

@@ -1,0 +1,52 @@
+// One step, printed: its number, that of its outcome, the eleven words of the record, the table.
+use agreement::Record;
+use libc::STDOUT_FILENO;
+use timeline::Changed;
+use timeline::Outcome;
+
+fn put(n: u64) {
+    io::write_all(STDOUT_FILENO, b" ");
+    io::print_decimal(STDOUT_FILENO, n);
+}
+
+fn number(outcome: Outcome) -> u32 {
+    match outcome {
+        Outcome::Accepted => 0,
+        Outcome::Refused(why) => why.number(),
+    }
+}
+
+fn put_record(rec: Record) {
+    put(rec.head.timescale.0);
+    put(rec.head.offset.0);
+    put(rec.head.start.0);
+    put(rec.head.duration.0);
+    put(rec.head.depth.0);
+    put(rec.head.first.0);
+    put(rec.accepted);
+    put(rec.dropped);
+    put(rec.next.0);
+    put(rec.clock.0);
+    put(rec.used as u64);
+}
+
+fn put_words(words: &[u64]) {
+    let mut i = 0;
+    while i < words.len() {
+        put(words[i]);
+        i += 1;
+    }
+}
+
+pub fn show(step: u64, changed: Changed, table: &[u64]) {
+    let rec = changed.rec;
+    let outcome = changed.outcome;
+    io::print_decimal(STDOUT_FILENO, step);
+    io::write_all(STDOUT_FILENO, b":");
+    put(number(outcome) as u64);
+    io::write_all(STDOUT_FILENO, b" |");
+    put_record(rec);
+    io::write_all(STDOUT_FILENO, b" |");
+    put_words(table);
+    io::write_all(STDOUT_FILENO, b"\n");
+}

@@ -1,0 +1,100 @@
+-- A line of the file is one frame: the byte of its kind, then the fields of that kind over the widths of the paper's table, and a line feed after
+-- it. A line that is too short or too long for its kind, is not of lower-case hexadecimal digits, or is of no known kind, is no frame. (The file)
+use mathlib.Core.Path.{_≡_}
+use mathlib.Core.Bool.{Bool, true, false, cond}
+use mathlib.Core.List.{List, [], _∷_, _++_}
+use Prim.Native.Nat.{ℕ, _+_}
+use lib.Dec.{eqb}
+use lib.ListN.{length, getD, take, drop}
+use Rattle.hex.specs.Digits.{areDigits, numberOf}
+use Rattle.frames.specs.Fields.{digitCount, fieldDigits, fieldValues, Fit}
+use Rattle.frames.specs.declared.Frame.{Frame}
+use Rattle.frames.specs.declared.Frame.the-variants.{Head, S, End, Clock, Bad}
+
+-- the table: the widths of the fields of each kind
+abbrev pub widthsOf : ℕ → List ℕ
+widthsOf k =
+    cond (eqb k 1) (4 ∷ 8 ∷ 8 ∷ 8 ∷ 8 ∷ 4 ∷ [])
+    (cond (eqb k 2) (8 ∷ 4 ∷ 4 ∷ []) (cond (eqb k 3) (4 ∷ []) (cond (eqb k 4) (8 ∷ []) [])))
+
+-- the same with the byte of the kind itself in front, and how many digits a line of this kind has
+abbrev pub lineWidths : ℕ → List ℕ
+lineWidths k = 1 ∷ widthsOf k
+
+abbrev pub lineLength : ℕ → ℕ
+lineLength k = digitCount (lineWidths k)
+
+-- no line of a known kind is longer than a head
+abbrev pub longestLine : ℕ
+longestLine = lineLength 1
+
+-- the kind and the fields of a frame
+abbrev pub kindOf : Frame → ℕ
+kindOf (Head h) = 1
+kindOf (S s) = 2
+kindOf (End n) = 3
+kindOf (Clock c) = 4
+kindOf Bad = 0
+
+abbrev pub valuesOf : Frame → List ℕ
+valuesOf (Head h) = h .timescale .0 ∷ h .offset .0 ∷ h .start .0 ∷ h .duration .0 ∷ h .depth .0 ∷ h .first .0 ∷ []
+valuesOf (S s) = s .t .0 ∷ s .d .0 ∷ s .r ∷ []
+valuesOf (End n) = n ∷ []
+valuesOf (Clock c) = c .0 ∷ []
+valuesOf Bad = []
+
+-- the frame of a kind and its fields; there is none of an unknown kind
+abbrev pub frameFrom : ℕ → List ℕ → Frame
+frameFrom k vs =
+    cond (eqb k 1)
+    (Head
+    (record {
+      timescale = record { 0 = getD vs 0 0 };
+      offset = record { 0 = getD vs 1 0 };
+      start = record { 0 = getD vs 2 0 };
+      duration = record { 0 = getD vs 3 0 };
+      depth = record { 0 = getD vs 4 0 };
+      first = record { 0 = getD vs 5 0 };
+    }))
+    (cond (eqb k 2)
+    (S (record { t = record { 0 = getD vs 0 0 }; d = record { 0 = getD vs 1 0 }; r = getD vs 2 0 }))
+    (cond (eqb k 3) (End (getD vs 0 0)) (cond (eqb k 4) (Clock (record { 0 = getD vs 0 0 })) Bad)))
+
+abbrev pub isFrame : Frame → Bool
+isFrame (Head h) = true
+isFrame (S s) = true
+isFrame (End n) = true
+isFrame (Clock c) = true
+isFrame Bad = false
+
+-- a frame whose fields can be written over their widths
+pub record Fits (f : Frame) : Type 0 where
+  pub known : isFrame f ≡ true
+  pub fields : Fit (widthsOf (kindOf f)) (valuesOf f)
+
+-- the line of a frame, and with its line feed
+unfoldable pub lineOf : Frame → List ℕ
+lineOf f = fieldDigits (lineWidths (kindOf f)) (kindOf f ∷ valuesOf f)
+
+unfoldable pub endedLine : Frame → List ℕ
+endedLine f = lineOf f ++ (10 ∷ [])
+
+-- what writing a frame leaves of an output: the line and its feed in front, the rest as it came; and the length written
+pub record Written (f : Frame) (before after : List ℕ) (n : ℕ) : Type 0 where
+  pub long : n ≡ lineLength (kindOf f) + 1
+  pub bytes : after ≡ endedLine f ++ drop (lineLength (kindOf f) + 1) before
+
+-- a line taken for one of kind k: the frame of the values after its first byte
+unfoldable pub frameAs : ℕ → List ℕ → Frame
+frameAs k line = frameFrom k (fieldValues (widthsOf k) (drop 2 line))
+
+-- what frame a line is: its first byte says its kind, and the kind its length and its fields. proofs/Lines.antt has the laws that it is exactly
+-- the frame that fits and has this line
+abbrev pub kindAt : List ℕ → ℕ
+kindAt line = numberOf (take 2 line)
+
+unfoldable pub frameOf : List ℕ → Frame
+frameOf line =
+    cond (areDigits line)
+    (cond (eqb (length line) (lineLength (kindAt line))) (frameAs (kindAt line) line) Bad)
+    Bad

@@ -1,0 +1,37 @@
+-- The whole file of case B after its trim at 18,000, line by line: each line is the frame that the paper means by it. (The file; By hand, B)
+use mathlib.Core.Path.{_≡_, refl}
+use mathlib.Core.List.{List, [], _∷_}
+use Prim.Native.Nat.{ℕ}
+use Prim.Native.Char.{code}
+use Prim.Native.String as text
+use Rattle.hex.specs.Digits.{between, isDigit, valueOf, areDigits, numberOf}
+use Rattle.frames.specs.Fields.{fieldValues}
+use Rattle.frames.specs.Frames.{lineLength, frameAs, frameOf}
+use Rattle.frames.specs.declared.Frame.the-variants.{Head, S, End}
+
+-- the bytes of a text in ASCII
+unfoldable pub bytesOf : text.String → List ℕ
+bytesOf text.[] = []
+bytesOf (text._∷_ c cs) = code c ∷ bytesOf cs
+
+pub record CaseB : Type 0 where
+  pub head-length : lineLength 1 ≡ 82
+  pub head :
+      frameOf (bytesOf "01000003e8000000000000000000000000000000000000000000000000000000000000271000000003") ≡
+      Head
+      (record {
+        timescale = record { 0 = 1000 };
+        offset = record { 0 = 0 };
+        start = record { 0 = 0 };
+        duration = record { 0 = 0 };
+        depth = record { 0 = 10000 };
+        first = record { 0 = 3 };
+      })
+  pub s :
+      frameOf (bytesOf "020000000000001f4000000fa000000002") ≡
+      S (record { t = record { 0 = 8000 }; d = record { 0 = 4000 }; r = 2 })
+  pub end : frameOf (bytesOf "0300000001") ≡ End 1
+
+pub case-b : CaseB
+unfolding frameOf frameAs fieldValues areDigits numberOf valueOf isDigit between bytesOf
+case-b = record { head-length = refl; head = refl; s = refl; end = refl }

@@ -1,0 +1,93 @@
+// One line of the file as a frame, read and written. A line here is the bytes before its line feed.
+ghost use mathlib.Core.Path.{_≡_};
+ghost use Prim.Native.Nat.{_<_};
+ghost use lib.ListN.{length};
+ghost use Rattle.frames.specs.Frames.{Fits, Written, frameOf, kindOf, lineLength};
+
+mod fields;
+mod kinds;
+
+use units::Millis;
+use units::Span;
+use units::WideTick;
+use window::Head;
+
+// The fields of an S line as they stand in the file: what an absent t and a negative r mean is judged above.
+pub struct SFields {
+    pub t: WideTick,
+    pub d: Span,
+    pub r: u64,
+}
+
+// A frame by its kind, or the mark of a line that is none.
+pub enum Frame {
+    Head(Head),
+    S(SFields),
+    End(u64),
+    Clock(Millis),
+    Bad,
+}
+
+// How many digits a line of a kind has; of an unknown kind, those of the kind alone.
+pub fn line_length(kind: u64) -> usize
+    ensures { λ r. ⌜ r ≡ lineLength kind ⌝ }
+{
+    match kind {
+        1 => 82,
+        2 => 34,
+        3 => 10,
+        4 => 18,
+        _ => 2,
+    }
+}
+
+// What frame a line is, whatever its bytes.
+pub fn read_line(line: &[u8]) -> Frame
+    ensures { λ r. ⌜ r ≡ frameOf (now (line .entry)) ⌝ }
+{
+    if !hex::are_digits(line) {
+        return Frame::Bad;
+    }
+    if line.len() < 2 {
+        return Frame::Bad;
+    }
+    let kind = hex::number(&line[0..2]);
+    if line.len() != line_length(kind) {
+        return Frame::Bad;
+    }
+    kinds::frame_of_kind(kind, line)
+}
+
+// Inner: the frame is one that fits its widths, and the output has room for its line and feed. Writes both at the front; the length written.
+pub fn write_line(out: &mut [u8], frame: Frame) -> usize
+    requires { ⌜ (Fits frame) × (lineLength (kindOf frame) < length (now out)) ⌝ }
+    ensures { λ r. ⌜ Written frame (now (out .entry)) (now (out .exit)) r ⌝ }
+{
+    match frame {
+        Frame::Head(h) => {
+            let values = [
+                1,
+                h.timescale.0,
+                h.offset.0,
+                h.start.0,
+                h.duration.0,
+                h.depth.0,
+                h.first.0,
+            ];
+            fields::write_fields(out, &kinds::HEAD_WIDTHS, &values)
+        }
+        Frame::S(s) => {
+            let values = [2, s.t.0, s.d.0, s.r];
+            fields::write_fields(out, &kinds::S_WIDTHS, &values)
+        }
+        Frame::End(count) => {
+            let values = [3, count];
+            fields::write_fields(out, &kinds::END_WIDTHS, &values)
+        }
+        Frame::Clock(clock) => {
+            let values = [4, clock.0];
+            fields::write_fields(out, &kinds::CLOCK_WIDTHS, &values)
+        }
+        Frame::Bad => 0,
+    }
+}

@@ -1,0 +1,117 @@
+-- How many references have ended by a tick: joined references end one after the other, so those that have ended stand
+-- first, and among references of one duration their number is a quotient.
+use mathlib.Core.Path.{_≡_, refl, sym, ap, _∙_}
+use mathlib.Core.Bool.{Bool, true, false, cond}
+use Prim.Native.Nat.{ℕ, zero, suc, _+_, _-_, _*_, _/_, _≤_, _<_, min}
+use native.Mathlib.Nat.{div-eq-sub-div, div-eq-of-lt, div-lt-iff-lt-mul, zero-min, min-zero, suc-min-suc, zero-div, min-eq-left, min-eq-right, mul-comm, le-of-lt}
+use native.Mathlib.Numerals.{add-one}
+use native.Mathlib.Omega.{arith}
+use mathlib.Core.List.{List, [], _∷_, _++_}
+use lib.Dec.{leb}
+use lib.ListN.{length, take, drop}
+use borrow.Author.Tests.{leb-true, leb-false, lt-leb}
+use Rattle.window.specs.declared.Reference.{Reference}
+use Rattle.window.specs.Window.{endOf}
+use Rattle.window.specs.References.{Joined, Each}
+use Rattle.runs.specs.Words.{repeated}
+use Rattle.runs.specs.Counting.{endedBy}
+use Rattle.runs.proofs.Joins.{repeated-join}
+
+module _ (t : ℕ) where
+  pub ended-append : (xs ys : List Reference) → endedBy t (xs ++ ys) ≡ endedBy t xs + endedBy t ys
+  unfolding endedBy
+  ended-append [] ys = omega arith
+  ended-append (x ∷ xs) ys = go (leb (endOf x) t) (ended-append xs ys)
+    where
+      go : (u : Bool) → endedBy t (xs ++ ys) ≡ endedBy t xs + endedBy t ys →
+          cond u (suc (endedBy t (xs ++ ys))) (endedBy t (xs ++ ys)) ≡ cond u (suc (endedBy t xs)) (endedBy t xs) + endedBy t ys
+      go true e = omega arith
+      go false e = e
+
+  pub ended-most : (rs : List Reference) → endedBy t rs ≤ length rs
+  unfolding endedBy
+  ended-most [] = omega arith
+  ended-most (r ∷ rs) = go (leb (endOf r) t) (ended-most rs)
+    where
+      go : (u : Bool) → endedBy t rs ≤ length rs → cond u (suc (endedBy t rs)) (endedBy t rs) ≤ suc (length rs)
+      go true l = omega arith
+      go false l = omega arith
+
+  -- of references that begin after t none has ended by it
+  pub none-ended : (s : ℕ) (rs : List Reference) → Joined s rs → t < s → endedBy t rs ≡ 0
+  unfolding endedBy
+  none-ended s [] j l = refl
+  none-ended s (r ∷ rs) j l =
+      ap (λ u. cond u (suc (endedBy t rs)) (endedBy t rs)) (lt-leb (endOf r) t (omega (arith, j .0))) ∙
+      none-ended (endOf r) rs (j .1) (omega (arith, j .0))
+
+  none-before : (s : ℕ) (rs : List Reference) → Joined s rs → t < s → Each (λ r. t < endOf r) rs
+  none-before s [] j l = tt
+  none-before s (r ∷ rs) j l = (omega (arith, j .0), none-before (endOf r) rs (j .1) (omega (arith, j .0)))
+
+  -- those that have ended by t stand first, and behind them none has
+  pub ended-first : (s : ℕ) (rs : List Reference) → Joined s rs → Each (λ r. endOf r ≤ t) (take (endedBy t rs) rs)
+  unfolding endedBy
+  ended-first s [] j = tt
+  ended-first s (r ∷ rs) j = go (leb (endOf r) t) refl (ended-first (endOf r) rs (j .1))
+    where
+      go : (u : Bool) → leb (endOf r) t ≡ u → Each (λ x. endOf x ≤ t) (take (endedBy t rs) rs) →
+          Each (λ x. endOf x ≤ t) (take (cond u (suc (endedBy t rs)) (endedBy t rs)) (r ∷ rs))
+      go true e f = (leb-true (endOf r) t e, f)
+      go false e f =
+          let none : endedBy t rs ≡ 0 = none-ended (endOf r) rs (j .1) (leb-false (endOf r) t e) in
+          rw none tt
+
+  pub ended-not : (s : ℕ) (rs : List Reference) → Joined s rs → Each (λ r. t < endOf r) (drop (endedBy t rs) rs)
+  unfolding endedBy
+  ended-not s [] j = tt
+  ended-not s (r ∷ rs) j = go (leb (endOf r) t) refl (ended-not (endOf r) rs (j .1))
+    where
+      go : (u : Bool) → leb (endOf r) t ≡ u → Each (λ x. t < endOf x) (drop (endedBy t rs) rs) →
+          Each (λ x. t < endOf x) (drop (cond u (suc (endedBy t rs)) (endedBy t rs)) (r ∷ rs))
+      go true e f = f
+      go false e f =
+          let l : t < endOf r = leb-false (endOf r) t e in
+          let none : endedBy t rs ≡ 0 = none-ended (endOf r) rs (j .1) l in
+          rw none (l, none-before (endOf r) rs (j .1) l)
+
+  -- THE LAW: a quotient, or all of them
+  pub ended-quotient : (s d n : ℕ) → 1 ≤ d → endedBy t (repeated s d n) ≡ min n ((t - s) / d)
+  unfolding endedBy repeated
+  ended-quotient s d zero l = sym (zero-min ((t - s) / d))
+  ended-quotient s d (suc n) l = go (leb (s + d) t) refl (ended-quotient (s + d) d n l)
+    where
+      go : (u : Bool) → leb (s + d) t ≡ u → endedBy t (repeated (s + d) d n) ≡ min n ((t - (s + d)) / d) →
+          cond u (suc (endedBy t (repeated (s + d) d n))) (endedBy t (repeated (s + d) d n)) ≡ min (suc n) ((t - s) / d)
+      go true e f =
+          let m : s + d ≤ t = leb-true (s + d) t e in
+          let less : (t - (s + d)) ≡ t - s - d = omega arith in
+          ap suc (f ∙ ap (λ k. min n (k / d)) less) ∙
+          sym (suc-min-suc n ((t - s - d) / d)) ∙
+          ap (min (suc n)) (sym (div-eq-sub-div l (omega arith) ∙ add-one ((t - s - d) / d)))
+      go false e f =
+          let m : t < s + d = leb-false (s + d) t e in
+          let less : t - (s + d) ≡ 0 = omega arith in
+          f ∙
+          ap (λ k. min n (k / d)) less ∙
+          ap (min n) (zero-div d) ∙
+          min-zero n ∙
+          sym (ap (min (suc n)) (div-eq-of-lt (omega arith)) ∙ min-zero (suc n))
+
+  -- ---- the same, as a test finds it
+
+  pub ended-none : (s d n : ℕ) → t < s → 0 ≡ endedBy t (repeated s d n)
+  ended-none s d n l = sym (none-ended s (repeated s d n) (repeated-join s d n) l)
+
+  pub ended-part : (s d n : ℕ) → 1 ≤ d → (t - s) / d < n → (t - s) / d ≡ endedBy t (repeated s d n)
+  ended-part s d n some l = sym (ended-quotient s d n some ∙ min-eq-right (le-of-lt l))
+
+  pub ended-all : (s d n : ℕ) → 1 ≤ d → n ≤ (t - s) / d → n ≡ endedBy t (repeated s d n)
+  ended-all s d n some l = sym (ended-quotient s d n some ∙ min-eq-left l)
+
+  -- not all have ended: their end lies past t
+  pub ends-past : (s d n : ℕ) → 1 ≤ d → endedBy t (repeated s d n) < n → t < s + d * n
+  ends-past s d n some l =
+      let q : min n ((t - s) / d) < n = rw (ended-quotient s d n some) at l in
+      let m : t - s < n * d = div-lt-iff-lt-mul some .0 (omega arith) in
+      omega (arith, mul-comm n d)

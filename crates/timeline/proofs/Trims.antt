@@ -1,0 +1,108 @@
+-- A trim of an agreeing record and table: what is gone stands in front, and the record counts it.
+use mathlib.Core.Path.{_≡_, sym, ap, ap₂, subst, subst⁻¹, _∙_}
+use mathlib.Core.Bool.{Bool, true, false, cond, not}
+use mathlib.Core.List.{List}
+use Prim.Native.Nat.{ℕ, _+_, _-_, _≤_, _<_, max}
+use native.Mathlib.Nat.{max-eq-left, max-eq-right, max-le, le-of-lt}
+use native.Mathlib.Omega.{arith}
+use borrow.Author.Tests.{leb-true, not-true, not-false}
+use lib.ListN.{length, getD, drop, length-drop}
+use mir.Syntax.{w64}
+use mir.Val.{Fits}
+use Rattle.units.specs.declared.Millis.{Millis}
+use Rattle.units.specs.Limits.{largestMillis, millisHeld}
+use Rattle.window.specs.declared.Passed.{Passed}
+use Rattle.window.specs.Limits.{Held}
+use Rattle.window.specs.Ticks.{EndsPassed}
+use Rattle.runs.specs.Shape.{shaped}
+use Rattle.runs.specs.Encoding.{runsFor, canonical}
+use Rattle.runs.proofs.Joins.{kept-join}
+use Rattle.agreement.specs.declared.Record.{Record}
+use Rattle.agreement.specs.declared.refusal.Refusal.the-variants.{Disagreement, ClockLimit}
+use Rattle.agreement.specs.Agreement.{kept, agrees}
+use Rattle.agreement.proofs.Agreeing.{Agreeing, agreeing}
+use Rattle.timeline.specs.declared.Outcome.the-variants.{Accepted, Refused}
+use Rattle.timeline.specs.Keeping.{goneOf}
+use Rattle.timeline.specs.Trimming.{leftAt, trimmed, trimOutcome}
+use Rattle.timeline.proofs.Unspent.{gone-most, unspent-is}
+
+module _ (a b : Millis) where
+  pub greater-second : a .0 < b .0 → b ≡ record { 0 = max (a .0) (b .0) }
+  greater-second l = ap (λ (n : ℕ). record { 0 = n }) (sym (max-eq-right (le-of-lt l)))
+
+  pub greater-first : b .0 ≤ a .0 → a ≡ record { 0 = max (a .0) (b .0) }
+  greater-first l = ap (λ (n : ℕ). record { 0 = n }) (sym (max-eq-left l))
+
+-- ---- the outcome
+
+module _ (rec : Record) (ws : List ℕ) (c : Millis) (t : Bool) (e : t ≡ agrees rec ws) where
+  pub trim-disagrees : not t ≡ true → trimOutcome rec ws c ≡ Refused Disagreement
+  unfolding trimOutcome
+  trim-disagrees n = ap (λ b. cond b (cond (millisHeld c) Accepted (Refused ClockLimit)) (Refused Disagreement)) (sym e ∙ not-true t n)
+
+  module _ (n : not t ≡ false) (u : Bool) (k : u ≡ millisHeld c) where
+    pub trim-agrees : agrees rec ws ≡ true
+    trim-agrees = sym e ∙ not-false t n
+
+    trim-by : trimOutcome rec ws c ≡ cond u Accepted (Refused ClockLimit)
+    unfolding trimOutcome
+    trim-by =
+        ap₂ (λ b d. cond b (cond d Accepted (Refused ClockLimit)) (Refused Disagreement)) (sym e ∙ not-false t n) (sym k)
+
+    pub trim-over : not u ≡ true → trimOutcome rec ws c ≡ Refused ClockLimit
+    trim-over m = trim-by ∙ ap (λ b. cond b Accepted (Refused ClockLimit)) (not-true u m)
+
+    module _ (m : not u ≡ false) where
+      pub trim-accepted : trimOutcome rec ws c ≡ Accepted
+      trim-accepted = trim-by ∙ ap (λ b. cond b Accepted (Refused ClockLimit)) (not-false u m)
+
+      pub trim-clock : c .0 ≤ largestMillis
+      trim-clock = leb-true (c .0) largestMillis (sym k ∙ not-false u m)
+
+-- ---- the step
+
+module _ (rec : Record) (ws : List ℕ) (a : agrees rec ws ≡ true) where
+  facts : Agreeing rec ws
+  facts = agreeing rec ws a
+
+  pub trim-held : Held (rec .head)
+  trim-held = facts .held .head
+
+  pub trim-counts : rec .dropped ≤ rec .accepted
+  trim-counts = facts .held .dropped
+
+  pub trim-shaped : shaped (rec .used) ws ≡ true
+  trim-shaped = facts .table
+
+  pub trim-total : rec .accepted - rec .dropped ≡ length (kept rec ws)
+  trim-total = sym (facts .total)
+
+  module _ (c : ℕ) (small : c ≤ largestMillis) (g : Millis) (e : g ≡ record { 0 = max (rec .clock .0) c }) where
+    pub trim-greatest : g .0 ≤ largestMillis
+    trim-greatest = subst⁻¹ (λ (n : ℕ). n ≤ largestMillis) (ap (λ x. x .0) e) (max-le (facts .held .clock) small)
+
+    module _ (p : Passed) (w : EndsPassed (rec .head) (g .0) p) (gone : ℕ) (k : gone ≡ goneOf p (kept rec ws)) where
+      few : gone ≤ length (kept rec ws)
+      few = subst⁻¹ (λ (n : ℕ). n ≤ length (kept rec ws)) k (gone-most p (kept rec ws))
+
+      left-is : leftAt rec ws c ≡ drop gone (kept rec ws)
+      left-is =
+          unspent-is (rec .head) (max (rec .clock .0) c) p (subst (λ (m : Millis). EndsPassed (rec .head) (m .0) p) e w) (getD ws 0 0) (kept rec ws)
+          (kept-join (rec .used) ws (facts .table)) ∙
+          ap (λ (n : ℕ). drop n (kept rec ws)) (sym k)
+
+      pub trim-fits : Fits w64 (rec .dropped + gone)
+      trim-fits = record { fits = omega (arith, few, facts .total, facts .held .accepted, facts .held .dropped) }
+
+      counted : rec .dropped + gone ≡ rec .dropped + (length (kept rec ws) - length (leftAt rec ws c))
+      counted = omega (arith, few, ap length left-is, length-drop gone (kept rec ws))
+
+      pub trim-record : (used : ℕ) → used ≡ runsFor (drop gone (kept rec ws)) →
+          record { head = rec .head; accepted = rec .accepted; dropped = rec .dropped + gone; next = rec .next; clock = g; used = used } ≡ trimmed rec ws c
+      trim-record used u =
+          ap₂ (λ (d : ℕ) (x : Millis). record { head = rec .head; accepted = rec .accepted; dropped = d; next = rec .next; clock = x; used = used }) counted e ∙
+          ap (λ (n : ℕ). record { head = rec .head; accepted = rec .accepted; dropped = rec .dropped + (length (kept rec ws) - length (leftAt rec ws c)); next = rec .next; clock = record { 0 = max (rec .clock .0) c }; used = n })
+          (u ∙ ap runsFor (sym left-is))
+
+      pub trim-table : (vs : List ℕ) → vs ≡ canonical (length ws) (drop gone (kept rec ws)) → vs ≡ canonical (length ws) (leftAt rec ws c)
+      trim-table vs v = v ∙ ap (canonical (length ws)) (sym left-is)

@@ -1,0 +1,24 @@
+-- `trim` meets its contract, way by way.
+use borrow.Author.Needs.{needs}
+use Rattle.agreement.specs.declared.refusal.Refusal.the-variants.{Disagreement, ClockLimit}
+use Rattle.timeline.proofs.Outcomes.{answer-refused, answer-accepted, words-refused, words-accepted}
+use Rattle.timeline.proofs.Trims.{trim-disagrees, trim-agrees, trim-over, trim-accepted, trim-clock}
+use Rattle.timeline.proofs.trimming.trim.Statement.{statement}
+use Rattle.timeline.proofs.trimming.trim.Tie as tie
+
+pub trim-spec : {M : Type 1} → statement M
+trim-spec =
+    tie.close
+    (tie.spec
+    (λ c κs. search needs)
+    (λ c κs. search needs)
+    (λ c. search needs)
+    (λ c. (search (needs, answer-refused, trim-disagrees), words-refused _ _ _ Disagreement (search (needs, trim-disagrees))))
+    (λ c κs. search needs)
+    (λ c κs. search needs)
+    (λ c. search needs)
+    (λ c. (search (needs, answer-refused, trim-over), words-refused _ _ _ ClockLimit (search (needs, trim-over))))
+    (λ c κs. search (needs, trim-agrees, trim-clock))
+    (λ c κs. search needs)
+    (λ c. search needs)
+    (λ c. search (needs, answer-accepted, words-accepted, trim-accepted)))

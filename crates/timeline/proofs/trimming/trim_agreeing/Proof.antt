@@ -1,0 +1,18 @@
+-- `trim_agreeing` meets its contract: what is gone is dropped from the front and counted.
+use borrow.Author.Needs.{needs}
+use Rattle.timeline.proofs.Trims.{trim-held, trim-counts, trim-shaped, trim-total, trim-greatest, trim-fits, trim-record, trim-table}
+use Rattle.timeline.proofs.trimming.trim_agreeing.Statement.{statement}
+use Rattle.timeline.proofs.trimming.trim_agreeing.Tie as tie
+
+pub trim-agreeing-spec : {M : Type 1} → statement M
+trim-agreeing-spec =
+    tie.close
+    (tie.spec
+    (λ c κs. search needs)
+    (λ c κs. search (needs, trim-held, trim-greatest))
+    (λ c. search (needs, trim-counts))
+    (λ c κs. search (needs, trim-shaped, trim-total))
+    (λ c κs. search (needs, trim-shaped))
+    (λ c. search (needs, trim-fits))
+    (λ c. search needs)
+    (λ c. (search (needs, trim-record), search (needs, trim-table))))

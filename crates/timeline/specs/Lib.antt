@@ -1,0 +1,4 @@
+pub mod Keeping
+pub mod Opening
+pub mod Appending
+pub mod Trimming

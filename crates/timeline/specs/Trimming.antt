@@ -1,0 +1,45 @@
+-- A trim raises the greatest clock to the given one if that is larger, and drops what is spent. An earlier clock changes
+-- nothing and is accepted. Paper: Append and trim; Refusal numbers, 2 and 10.
+use Prim.Native.Nat.{ℕ, max}
+use mathlib.Core.Bool.{cond}
+use mathlib.Core.List.{List}
+use lib.ListN.{length}
+use Rattle.units.specs.declared.Millis.{Millis}
+use Rattle.units.specs.Limits.{millisHeld}
+use Rattle.window.specs.declared.Reference.{Reference}
+use Rattle.runs.specs.Encoding.{canonical}
+use Rattle.agreement.specs.declared.Record.{Record}
+use Rattle.agreement.specs.declared.refusal.Refusal.the-variants.{Disagreement, ClockLimit}
+use Rattle.agreement.specs.Agreement.{kept, agrees}
+use Rattle.timeline.specs.declared.Outcome.{Outcome}
+use Rattle.timeline.specs.declared.Outcome.the-variants.{Accepted, Refused}
+use Rattle.timeline.specs.declared.Changed.{Changed}
+use Rattle.timeline.specs.Keeping.{unspent, keeping, changedBy, wordsBy}
+
+-- the record at the greater of its clock and c
+abbrev pub clockRaised : Record → ℕ → Record
+clockRaised rec c =
+    record {
+      head = rec .head;
+      accepted = rec .accepted;
+      dropped = rec .dropped;
+      next = rec .next;
+      clock = record { 0 = max (rec .clock .0) c };
+      used = rec .used;
+    }
+
+-- what is left of the kept references then
+abbrev pub leftAt : Record → List ℕ → ℕ → List Reference
+leftAt rec ws c = unspent (rec .head) (max (rec .clock .0) c) (kept rec ws)
+
+unfoldable pub trimOutcome : Record → List ℕ → Millis → Outcome
+trimOutcome rec ws c = cond (agrees rec ws) (cond (millisHeld c) Accepted (Refused ClockLimit)) (Refused Disagreement)
+
+abbrev pub trimmed : Record → List ℕ → ℕ → Record
+trimmed rec ws c = keeping (clockRaised rec c) (kept rec ws) (leftAt rec ws c)
+
+abbrev pub trimAnswer : Record → List ℕ → Millis → Changed
+trimAnswer rec ws c = changedBy (trimOutcome rec ws c) (trimmed rec ws (c .0)) rec
+
+abbrev pub trimTable : Record → List ℕ → Millis → List ℕ
+trimTable rec ws c = wordsBy (trimOutcome rec ws c) (canonical (length ws) (leftAt rec ws (c .0))) ws

@@ -1,0 +1,55 @@
+// Opening a timeline over a lent table.
+ghost use mathlib.Core.Path.{_≡_};
+ghost use Rattle.timeline.specs.Opening.{freshRecord, zeroRecord, openAnswer, openTable};
+use crate::Changed;
+use crate::accepted;
+use crate::refused;
+use agreement::Record;
+use agreement::Refusal;
+use units::Millis;
+use units::Number;
+use units::Tick;
+use units::Timescale;
+use window::Head;
+
+fn fresh(head: Head, first: Tick) -> Record
+    ensures { λ r. ⌜ r ≡ freshRecord head first ⌝ }
+{
+    Record {
+        head,
+        accepted: 0,
+        dropped: 0,
+        next: first,
+        clock: Millis(0),
+        used: 0,
+    }
+}
+
+// The record of no timeline, which a refused opening and a refused reading answer.
+pub fn zero_record() -> Record
+    ensures { λ r. ⌜ r ≡ zeroRecord ⌝ }
+{
+    let head = Head {
+        timescale: Timescale(0),
+        offset: Tick(0),
+        start: Millis(0),
+        duration: Millis(0),
+        depth: Millis(0),
+        first: Number(0),
+    };
+    fresh(head, Tick(0))
+}
+
+pub fn open(head: Head, first: Tick, table: &mut [u64]) -> Changed
+    ensures { λ r. ⌜ r ≡ openAnswer head first ⌝ }
+    ensures { λ _. ⌜ now (table .exit) ≡ openTable head first (now (table .entry)) ⌝ }
+{
+    if !head.held() {
+        return refused(Refusal::OverLimit, zero_record());
+    }
+    if !first.held() {
+        return refused(Refusal::OverLimit, zero_record());
+    }
+    runs::table::clear(table);
+    accepted(fresh(head, first))
+}

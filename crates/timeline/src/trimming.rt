@@ -1,0 +1,56 @@
+// Trimming: the greatest clock rises, and what is spent then is dropped.
+ghost use mathlib.Core.Path.{_≡_};
+ghost use mathlib.Core.Bool.{true};
+ghost use Prim.Native.Nat.{_≤_, max};
+ghost use lib.ListN.{length};
+ghost use Rattle.units.specs.Limits.{largestMillis};
+ghost use Rattle.runs.specs.Encoding.{canonical};
+ghost use Rattle.agreement.specs.Agreement.{agrees};
+ghost use Rattle.timeline.specs.Trimming.{leftAt, trimmed, trimAnswer, trimTable};
+use crate::Changed;
+use crate::accepted;
+use crate::keeping::gone_in;
+use crate::refused;
+use agreement::Record;
+use agreement::Refusal;
+use units::Millis;
+
+fn greater(a: Millis, b: Millis) -> Millis
+    ensures { λ r. ⌜ r ≡ record { 0 = max (a .0) (b .0) } ⌝ }
+{
+    if a.0 < b.0 {
+        return b;
+    }
+    a
+}
+
+// Inner: callers show that record and table agree and that the clock is held.
+fn trim_agreeing(rec: Record, table: &mut [u64], clock: Millis) -> Record
+    requires { ⌜ (agrees rec (now table) ≡ true) × (clock .0 ≤ largestMillis) ⌝ }
+    ensures { λ r. ⌜ r ≡ trimmed rec (now (table .entry)) (clock .0) ⌝ }
+    ensures { λ _. ⌜ now (table .exit) ≡ canonical (length (now (table .entry))) (leftAt rec (now (table .entry)) (clock .0)) ⌝ }
+{
+    let greatest = greater(rec.clock, clock);
+    let passed = rec.head.passed_ends(greatest);
+    let used = rec.used;
+    let gone = gone_in(passed, table, used, rec.accepted - rec.dropped);
+    let left = runs::table::drop_front(table, used, gone);
+    let mut kept = rec;
+    kept.clock = greatest;
+    kept.dropped = rec.dropped + gone;
+    kept.used = left;
+    kept
+}
+
+pub fn trim(rec: Record, table: &mut [u64], clock: Millis) -> Changed
+    ensures { λ r. ⌜ r ≡ trimAnswer rec (now (table .entry)) clock ⌝ }
+    ensures { λ _. ⌜ now (table .exit) ≡ trimTable rec (now (table .entry)) clock ⌝ }
+{
+    if !rec.agrees(table) {
+        return refused(Refusal::Disagreement, rec);
+    }
+    if !clock.held() {
+        return refused(Refusal::ClockLimit, rec);
+    }
+    accepted(trim_agreeing(rec, table, clock))
+}

@@ -1,0 +1,168 @@
+//! The cases of "By hand", the marked ones and the others, and the worked file.
+
+use super::support::*;
+use crate::window::HeadFields;
+
+fn case_a() -> Lent {
+    let mut lent = Lent::opened(CASE_A, 111, 30);
+    assert_eq!(lent.append(111, 40, 1), 0);
+    assert_eq!(lent.append(151, 10, 1), 0);
+    lent
+}
+
+/// Case B with its five references.
+pub fn case_b() -> Lent {
+    let mut lent = Lent::opened(CASE_B, 0, 30);
+    assert_eq!(lent.append(0, 4000, 5), 0);
+    lent
+}
+
+const WORKED_FILE: &str = "\
+01000003e8000000000000000000000000000000000000000000000000000000000000271000000003
+020000000000001f4000000fa000000002
+0300000001
+";
+
+#[test]
+fn a_next_tick_and_gap() {
+    let mut lent = case_a();
+    assert_eq!(lent.record[NEXT_TICK], 161);
+    assert_eq!(lent.append(170, 10, 1), 4);
+    assert_eq!(lent.append(161, 10, 1), 0);
+}
+
+#[test]
+fn a_availability_of_the_first() {
+    let lent = case_a();
+    assert_eq!(lent.availability(0), Ok([0, 351_000, 0]));
+    assert_eq!(lent.available_at(0, 35_099), Ok(false));
+    assert_eq!(lent.available_at(0, 35_100), Ok(true));
+}
+
+#[test]
+fn a_whole_period() {
+    assert_eq!(case_a().verdict_whole(), Ok([2, 100, 50, 100, 50]));
+}
+
+#[test]
+fn a_words() {
+    let lent = case_a();
+    assert_eq!(
+        lent.record,
+        [10, 100, 30_000, 10_000, 0, 0, 2, 0, 161, 0, 2]
+    );
+    assert_eq!(lent.table[..6], [111, 40, 1, 151, 10, 1]);
+    assert!(lent.table[6..].iter().all(|word| *word == 0));
+}
+
+#[test]
+fn b_trims() {
+    let mut lent = case_b();
+    for (clock, dropped) in [(13_999, 0), (14_000, 1), (18_000, 2)] {
+        assert_eq!(lent.trim(clock), 0);
+        assert_eq!(lent.record[DROPPED], dropped);
+        assert_eq!(lent.record[ACCEPTED], 5);
+        assert_eq!(lent.table[..3], [dropped * 4000, 4000, 5 - dropped]);
+    }
+}
+
+#[test]
+fn b_an_earlier_clock_changes_nothing() {
+    let mut lent = case_b();
+    assert_eq!(lent.trim(18_000), 0);
+    let before = lent.clone();
+    assert_eq!(lent.trim(14_000), 0);
+    assert_eq!(lent.trim(18_000), 0);
+    assert_eq!(lent, before);
+}
+
+#[test]
+fn b_verdicts_without_trims() {
+    let lent = case_b();
+    assert_eq!(lent.verdict(14_000), Ok([1, 10_000, 10_000, 0, 100]));
+    assert_eq!(lent.verdict(20_001), Ok([2, 10_000, 9_999, 20_000, 99]));
+    assert_eq!(lent.verdict(0), Ok([0; 5]));
+}
+
+#[test]
+fn b_availability_of_number_3() {
+    let lent = case_b();
+    assert_eq!(lent.availability(3), Ok([1, 12_000_000, 26_000_000]));
+    assert_eq!(lent.available_at(3, 11_999), Ok(false));
+    assert_eq!(lent.available_at(3, 12_000), Ok(true));
+    assert_eq!(lent.available_at(3, 25_999), Ok(true));
+    assert_eq!(lent.available_at(3, 26_000), Ok(false));
+}
+
+#[test]
+fn b_the_worked_file() {
+    let mut lent = case_b();
+    assert_eq!(lent.trim(18_000), 0);
+    assert_eq!(lent.write(), Ok(WORKED_FILE.as_bytes().to_vec()));
+    assert_eq!(WORKED_FILE.lines().next().map(str::len), Some(82));
+    let length = WORKED_FILE.len();
+    assert_eq!(length, 83 + 35 + 11);
+    assert_eq!(lent.write_into(length), Ok(WORKED_FILE.as_bytes().to_vec()));
+    assert_eq!(lent.write_into(length - 1), Err(15));
+}
+
+#[test]
+fn b_the_worked_file_read_back() {
+    let mut lent = case_b();
+    assert_eq!(lent.trim(18_000), 0);
+    let again = read_into(30, WORKED_FILE).expect("an accepted file");
+    assert_eq!(again.table, lent.table);
+    assert_eq!(again.record, [1000, 0, 0, 0, 10_000, 3, 3, 0, 20_000, 0, 1]);
+}
+
+#[test]
+fn c_stamps() {
+    let opened = Lent::opened(OPEN_ENDED, 4_294_970_000, 30);
+    for (stamp, answer) in [
+        (2704, 0),
+        (2705, 4),
+        (2703, 5),
+        (2_147_486_351, 4),
+        (2_147_486_352, 5),
+    ] {
+        assert_eq!(opened.clone().append_stamp(stamp, 1, 1), answer);
+    }
+}
+
+#[test]
+fn c_a_joining_stamp_stores_the_full_tick() {
+    let mut lent = Lent::opened(OPEN_ENDED, 4_294_970_000, 30);
+    assert_eq!(lent.append_stamp(2704, 7, 2), 0);
+    assert_eq!(lent.table[..3], [4_294_970_000, 7, 2]);
+    assert_eq!(lent.record[NEXT_TICK], 4_294_970_014);
+}
+
+#[test]
+fn d_the_period_needs_ticks_0_and_1() {
+    let mut lent = Lent::opened(CASE_D, 0, 30);
+    assert_eq!(lent.verdict_whole(), Ok([2, 2, 0, 0, 0]));
+    assert_eq!(lent.append(0, 1, 1), 0);
+    assert_eq!(lent.verdict_whole(), Ok([2, 2, 1, 1, 50]));
+    assert_eq!(lent.append(1, 1, 1), 0);
+    assert_eq!(lent.verdict_whole(), Ok([1, 2, 2, 0, 100]));
+    assert_eq!(lent.append(2, 1, 1), 8);
+}
+
+#[test]
+fn d_a_negative_r_gives_two() {
+    let lent = read_into(30, &file(CASE_D, &[(0, 1, -1)])).expect("an accepted file");
+    assert_eq!(lent.record[ACCEPTED], 2);
+    assert_eq!(lent.table[..3], [0, 1, 2]);
+}
+
+#[test]
+fn the_window_from_3_and_a_half_to_10_and_a_half_ticks() {
+    // At timescale 500 a tick is two milliseconds: 7 ms is tick 3.5, 21 ms is tick 10.5.
+    let head = HeadFields {
+        timescale: 500,
+        depth: 14,
+        ..OPEN_ENDED
+    };
+    let lent = Lent::opened(head, 0, 30);
+    assert_eq!(lent.verdict(21), Ok([2, 8, 0, 3, 0]));
+}

@@ -1,0 +1,346 @@
+//! Closed forms of the library against enumeration and search, on small cases.
+
+use super::literal::{Literal, Ticks};
+use super::sequences::{random_head, tick_base};
+use super::support::*;
+use crate::reference::{runs_of, Reference, Run};
+use crate::timeline::Timeline;
+use crate::units::{Grains, Millis, RefDuration, Span, Tick, WideTick};
+use crate::verdict::percent;
+use crate::window::{Head, HeadFields};
+
+fn reference(start: u64, duration: u64) -> Reference {
+    Reference {
+        start: Tick::new(start).expect("a start within the limit"),
+        duration: RefDuration::new(duration).expect("a duration within the limit"),
+    }
+}
+
+fn ticks_of(reference: Reference) -> Ticks {
+    (
+        i128::from(reference.start.get()),
+        i128::from(reference.start.get()) + i128::from(reference.duration.get()),
+    )
+}
+
+fn millis(head: &Head, clock: u64) -> Grains {
+    head.timescale.grains_of_millis(i128::from(clock))
+}
+
+/// A reference near the period of a head, and the head both ways.
+fn random_case(generator: &mut Generator) -> (Head, Literal, HeadFields, Run) {
+    let fields = random_head(generator);
+    let head = fields.judge().expect("a head within its limits");
+    let run = Run {
+        start: Tick::new(tick_base(fields) + generator.below(60)).expect("within the limit"),
+        duration: RefDuration::new(generator.between(1, 30)).expect("not 0"),
+        count: generator.between(1, 8),
+    };
+    (head, Literal::of(fields), fields, run)
+}
+
+#[test]
+fn needed_by_the_paper() {
+    let mut generator = Generator::new(10);
+    for _ in 0..4_000 {
+        let (head, literal, _, run) = random_case(&mut generator);
+        let one = run.reference(0);
+        let clock = generator.below(1_500);
+        assert_eq!(
+            head.needed(one, millis(&head, clock)),
+            literal.needed(ticks_of(one), i128::from(clock))
+        );
+    }
+}
+
+#[test]
+fn spent_against_a_search_through_the_milliseconds() {
+    let mut generator = Generator::new(11);
+    let (mut spent, mut past_period) = (0, 0);
+    for _ in 0..4_000 {
+        let (head, literal, _, run) = random_case(&mut generator);
+        let one = run.reference(0);
+        let clock = generator.below(1_500);
+        let found = head.spent(one, millis(&head, clock));
+        assert_eq!(found, literal.spent(ticks_of(one), i128::from(clock)));
+        spent += usize::from(found);
+        past_period += usize::from(head.past_period(head.place(one.start.wide())));
+    }
+    assert!(spent > 400 && spent < 3_600 && past_period > 100);
+}
+
+/// A number up to a limit: anywhere, low, or near the limit.
+fn up_to(generator: &mut Generator, limit: u64) -> u64 {
+    match generator.below(3) {
+        0 => generator.between(0, limit),
+        1 => generator.below(1_000).min(limit),
+        _ => limit - generator.below(1_000).min(limit),
+    }
+}
+
+#[test]
+fn spent_against_the_papers_comparison_up_to_the_limits() {
+    let mut generator = Generator::new(18);
+    let (mut spent, mut kept) = (0, 0);
+    for _ in 0..40_000 {
+        let fields = HeadFields {
+            timescale: up_to(&mut generator, 9_999_999) + 1,
+            offset: up_to(&mut generator, Tick::MAX),
+            start: up_to(&mut generator, Millis::MAX),
+            duration: up_to(&mut generator, Millis::MAX),
+            depth: up_to(&mut generator, Millis::MAX),
+            first_number: 0,
+        };
+        let head = fields.judge().expect("a head within its limits");
+        let literal = Literal::of(fields);
+        let clock = up_to(&mut generator, Millis::MAX);
+        // An end near one of the points of the comparison, in ticks.
+        let near = generator.pick(&[
+            literal.start,
+            literal.start + literal.duration,
+            i128::from(clock) - literal.depth,
+        ]);
+        let tick = literal.offset
+            + (near - literal.start) * literal.timescale / 1000
+            + i128::from(generator.below(5))
+            - 2;
+        let duration = up_to(&mut generator, u64::from(u32::MAX - 1)) + 1;
+        let start = match u64::try_from(tick - i128::from(duration)) {
+            Ok(start) if start <= Tick::MAX - duration => start,
+            _ => continue,
+        };
+        let one = reference(start, duration);
+        if head.past_period(head.place(one.start.wide())) {
+            continue;
+        }
+        let end = literal.place(ticks_of(one).1);
+        let earlier = literal.period_end().map_or(end, |period| end.min(period));
+        let compared = earlier <= literal.start * literal.timescale
+            || literal.depth > 0
+                && earlier <= (i128::from(clock) - literal.depth) * literal.timescale;
+        assert_eq!(head.spent(one, millis(&head, clock)), compared);
+        spent += usize::from(compared);
+        kept += usize::from(!compared);
+    }
+    assert!(spent > 1_000 && kept > 1_000, "{} {}", spent, kept);
+}
+
+#[test]
+fn spent_only_ever_turns_true() {
+    let mut generator = Generator::new(12);
+    for _ in 0..2_000 {
+        let (head, _, _, run) = random_case(&mut generator);
+        let one = run.reference(0);
+        let clock = generator.below(1_500);
+        if head.spent(one, millis(&head, clock)) {
+            assert!(head.spent(one, millis(&head, clock + generator.below(500))));
+        }
+    }
+}
+
+#[test]
+fn spent_count_against_counting() {
+    let mut generator = Generator::new(13);
+    let mut compared = 0;
+    for _ in 0..4_000 {
+        let (head, literal, _, run) = random_case(&mut generator);
+        let starts_past = head.past_period(head.place(run.start_of(run.count - 1)));
+        if starts_past || run.end().limited().is_none() {
+            continue;
+        }
+        compared += 1;
+        let clock = generator.below(1_500);
+        let counted = (0..run.count)
+            .filter(|index| literal.spent(ticks_of(run.reference(*index)), i128::from(clock)))
+            .count() as u64;
+        assert_eq!(head.spent_count(run, millis(&head, clock)), counted);
+    }
+    assert!(compared > 1_000);
+}
+
+#[test]
+fn needed_ticks_against_enumeration() {
+    let mut generator = Generator::new(14);
+    for _ in 0..2_000 {
+        let (head, literal, _, _) = random_case(&mut generator);
+        let clock = generator.below(1_500);
+        let by_clock = (
+            head.window_at(millis(&head, clock)),
+            literal.window(i128::from(clock)),
+        );
+        let whole = head.whole_period().zip(literal.whole_period());
+        for (window, stretch) in whole.into_iter().chain([by_clock]) {
+            assert_eq!((window.from.get(), window.to.get()), stretch);
+            let ticks = head.needed_ticks(window);
+            let enumerated = literal.needed_ticks(stretch);
+            assert_eq!(ticks.count(), enumerated.len() as u64);
+            if let Some(first) = enumerated.first() {
+                assert_eq!(ticks.from.get(), *first);
+            }
+        }
+    }
+}
+
+#[test]
+fn needed_ticks_of_any_window_of_grains() {
+    // Windows that begin and end within a tick, at a timescale of one tick a millisecond.
+    let head = OPEN_ENDED.judge().expect("a head within its limits");
+    let literal = Literal::of(OPEN_ENDED);
+    for from in (0..3_100).step_by(99) {
+        for to in (0..3_100).step_by(101) {
+            let ticks = head.needed_ticks(Span {
+                from: Grains::new(from),
+                to: Grains::new(to),
+            });
+            let enumerated = literal.needed_ticks((from, to));
+            assert_eq!(ticks.count(), enumerated.len() as u64);
+        }
+    }
+}
+
+#[test]
+fn rounding_of_grains_to_ticks() {
+    for grains in -3_000_i128..=3_000 {
+        let down = Grains::new(grains).ticks_down();
+        let up = Grains::new(grains).ticks_up();
+        assert!(down * 1000 <= grains && grains < (down + 1) * 1000);
+        assert!((up - 1) * 1000 < grains && grains <= up * 1000);
+    }
+}
+
+#[test]
+fn verdicts_against_enumeration() {
+    let mut generator = Generator::new(15);
+    let mut kinds = [0; 3];
+    for _ in 0..2_000 {
+        let fields = random_head(&mut generator);
+        let lent = super::sequences::random_state(&mut generator, fields);
+        let literal = Literal::of(fields);
+        let kept = kept_ticks(&lent);
+        let clock = lent.record[GREATEST_CLOCK] + generator.below(700);
+        let found = lent.verdict(clock).expect("an accepted verdict");
+        let window = literal.window(i128::from(clock));
+        assert_eq!(found, literal.verdict(&kept, window));
+        kinds[found[0] as usize] += 1;
+        match literal.whole_period() {
+            None => assert_eq!(lent.verdict_whole(), Err(19)),
+            Some(window) => {
+                let found = lent.verdict_whole().expect("an accepted verdict");
+                assert_eq!(found, literal.verdict(&kept, window));
+                kinds[found[0] as usize] += 1;
+            }
+        }
+    }
+    assert!(kinds.iter().all(|times| *times > 50), "{:?}", kinds);
+}
+
+/// The references that the used runs of a table stand for.
+pub fn kept_ticks(lent: &Lent) -> Vec<Ticks> {
+    let mut kept = Vec::new();
+    for run in lent.table.chunks(3).take(lent.record[RUNS_USED] as usize) {
+        for index in 0..run[2] {
+            let start = i128::from(run[0] + index * run[1]);
+            kept.push((start, start + i128::from(run[1])));
+        }
+    }
+    kept
+}
+
+#[test]
+fn the_count_of_a_negative_r_against_counting_up() {
+    let mut generator = Generator::new(16);
+    let mut accepted = 0;
+    for _ in 0..3_000 {
+        let (_, literal, fields, run) = random_case(&mut generator);
+        let end = match literal.period_end() {
+            Some(end) if literal.place(i128::from(run.start.get())) < end => end,
+            _ => continue,
+        };
+        let duration = i128::from(run.duration.get());
+        let start = i128::from(run.start.get());
+        let count = (1..)
+            .find(|count| literal.place(start + count * duration) >= end)
+            .expect("a count that reaches the end");
+        let fields = HeadFields {
+            first_number: 0,
+            ..fields
+        };
+        let mut timeline =
+            Timeline::open(fields, run.start.get(), 10).expect("an accepted opening");
+        match timeline.append_to_period_end(run.start.get(), run.duration.get()) {
+            Ok(()) => {
+                assert_eq!(i128::from(timeline.accepted()), count);
+                accepted += 1;
+            }
+            Err(refusal) => {
+                assert_eq!(refusal.number(), 6);
+                assert!(start + count * duration > i128::from(Tick::MAX));
+            }
+        }
+    }
+    assert!(accepted > 500);
+}
+
+#[test]
+fn runs_against_their_references() {
+    let mut generator = Generator::new(17);
+    for _ in 0..500 {
+        let mut references: Vec<Reference> = Vec::new();
+        let mut next = generator.below(100);
+        for _ in 0..generator.below(20) {
+            let duration = generator.between(1, 3);
+            references.push(reference(next, duration));
+            next += duration;
+        }
+        let runs = runs_of(&references);
+        let expanded: Vec<Reference> = runs
+            .iter()
+            .flat_map(|run| (0..run.count).map(|index| run.reference(index)))
+            .collect();
+        assert_eq!(expanded, references);
+        assert!(runs.iter().all(|run| run.count > 0));
+        assert!(runs
+            .windows(2)
+            .all(|pair| pair[0].duration != pair[1].duration));
+    }
+}
+
+#[test]
+fn spans_share_what_points_share() {
+    let point = |number: i128| WideTick::new(number);
+    for a in 0..5 {
+        for b in 0..5 {
+            for c in 0..5 {
+                for d in 0..5 {
+                    let one = Span {
+                        from: point(a),
+                        to: point(b),
+                    };
+                    let other = Span {
+                        from: point(c),
+                        to: point(d),
+                    };
+                    let shared = (0..5)
+                        .filter(|tick| one.holds(point(*tick)) && other.holds(point(*tick)))
+                        .count();
+                    assert_eq!(one.overlaps(other), shared > 0);
+                    assert_eq!(one.common(other).count(), shared as u64);
+                }
+            }
+        }
+    }
+}
+
+#[test]
+fn percent_is_the_greatest_that_does_not_pass() {
+    assert_eq!(percent(0, 0), None);
+    assert_eq!(percent(u64::MAX, u64::MAX), Some(100));
+    assert_eq!(percent(u64::MAX - 1, u64::MAX), Some(99));
+    for needed in 1..=120 {
+        for covered in 0..=needed {
+            let found = percent(covered, needed).expect("needed is above 0");
+            assert!(found * needed <= covered * 100);
+            assert!((found + 1) * needed > covered * 100);
+        }
+    }
+}

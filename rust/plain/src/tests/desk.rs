@@ -1,0 +1,158 @@
+//! The program's answers.
+
+use super::support::*;
+use crate::desk::answer;
+use crate::units::Millis;
+use crate::window::HeadFields;
+
+fn ask(clock: u64, text: &str) -> String {
+    answer((clock_line(clock) + text).as_bytes())
+}
+
+fn case_b_file() -> String {
+    file(CASE_B, &[(0, 4000, 4)])
+}
+
+#[test]
+fn the_answers_of_case_b() {
+    assert_eq!(ask(0, &case_b_file()), "nothing needed\n");
+    assert_eq!(ask(14_000, &case_b_file()), "complete 10000/10000 100%\n");
+    assert_eq!(
+        ask(20_001, &case_b_file()),
+        "lacking 20000 9999/10000 99%\n"
+    );
+}
+
+#[test]
+fn the_whole_period() {
+    let text = file(CASE_A, &[(111, 40, 0), (ABSENT, 10, 0)]);
+    assert_eq!(ask(WHOLE, &text), "lacking 100 50/100 50%\n");
+    let text = file(CASE_D, &[(0, 1, -1)]);
+    assert_eq!(ask(WHOLE, &text), "complete 2/2 100%\n");
+}
+
+#[test]
+fn a_refused_line_of_the_file() {
+    let text = case_b_file();
+    assert_eq!(ask(0, &text[..100]), "refused 16 line 2\n");
+    assert_eq!(ask(0, &text.replace('f', "F")), "refused 16 line 2\n");
+    assert_eq!(ask(0, &(text + "00")), "refused 16 line 4\n");
+    assert_eq!(ask(0, &end_line(0)), "refused 17 line 1\n");
+}
+
+#[test]
+fn the_clock_line() {
+    let text = case_b_file();
+    for bad in [
+        "\n".to_string(),
+        clock_line(0).trim_end().to_string(),
+        clock_line(0).trim_end().to_string() + "0\n",
+        clock_line(0)[1..].to_string(),
+        clock_line(0).replace('4', "5"),
+        clock_line(255).replace('f', "F"),
+        clock_line(0).replace('\n', "\r\n"),
+        String::new(),
+    ] {
+        assert_eq!(answer((bad + &text).as_bytes()), "refused 16 line 0\n");
+    }
+    assert_eq!(answer(b""), "refused 16 line 0\n");
+    assert_eq!(
+        answer(clock_line(0).trim_end().as_bytes()),
+        "refused 16 line 0\n"
+    );
+    assert_eq!(answer(clock_line(0).as_bytes()), "refused 16 line 1\n");
+}
+
+#[test]
+fn kinds_on_the_clock_line() {
+    for kind in (0..=255).filter(|kind| *kind != 4) {
+        let line = format!("{:02x}{}", kind, &clock_line(0)[2..]);
+        assert_eq!(
+            answer((line + &case_b_file()).as_bytes()),
+            "refused 16 line 0\n"
+        );
+    }
+}
+
+#[test]
+fn the_clock_is_judged_before_the_file() {
+    let over = Millis::MAX + 1;
+    assert_eq!(ask(over, &case_b_file()), "refused 10 line 0\n");
+    assert_eq!(ask(over, ""), "refused 10 line 0\n");
+    assert_eq!(ask(WHOLE - 1, &end_line(0)), "refused 10 line 0\n");
+    assert_eq!(ask(Millis::MAX, &end_line(0)), "refused 17 line 1\n");
+    assert_eq!(
+        ask(Millis::MAX, &case_b_file()),
+        "lacking 99999990000 0/10000 0%\n"
+    );
+}
+
+#[test]
+fn the_verdict_is_judged_after_the_file() {
+    assert_eq!(ask(WHOLE, &case_b_file()), "refused 19 line 0\n");
+    assert_eq!(ask(WHOLE, &head_line(CASE_B)), "refused 16 line 2\n");
+    assert_eq!(ask(WHOLE, ""), "refused 16 line 1\n");
+}
+
+#[test]
+fn each_refusal_of_a_file() {
+    let short = HeadFields {
+        duration: 1_000,
+        ..OPEN_ENDED
+    };
+    let numbered = HeadFields {
+        first_number: u32::MAX,
+        ..short
+    };
+    let bad_head = HeadFields {
+        timescale: 0,
+        ..short
+    };
+    let top = (1 << 52) - 1;
+    for (text, line) in [
+        (file(bad_head, &[(0, 1, 0)]), "refused 1 line 1\n"),
+        (file(short, &[(0, 0, 0)]), "refused 3 line 2\n"),
+        (file(short, &[(0, 1, 0), (2, 1, 0)]), "refused 4 line 3\n"),
+        (file(short, &[(0, 1, 0), (0, 1, 0)]), "refused 5 line 3\n"),
+        (file(short, &[(top, 1, 0)]), "refused 6 line 2\n"),
+        (file(numbered, &[(0, 1, 0)]), "refused 7 line 2\n"),
+        (file(short, &[(1_000, 1, 0)]), "refused 8 line 2\n"),
+        (
+            file(short, &[(0, 1, -1), (ABSENT, 1, 0)]),
+            "refused 17 line 3\n",
+        ),
+        (file(OPEN_ENDED, &[(0, 1, -1)]), "refused 18 line 2\n"),
+    ] {
+        assert_eq!(ask(0, &text), line);
+    }
+}
+
+#[test]
+fn the_1025th_run_is_9_on_its_line() {
+    let lines = |many: u32| -> Vec<(u64, u32, i32)> {
+        (0..many).map(|at| (ABSENT, at % 2 + 1, 0)).collect()
+    };
+    assert_eq!(
+        ask(1_536, &file(OPEN_ENDED, &lines(1_024))),
+        "complete 1536/1536 100%\n"
+    );
+    assert_eq!(
+        ask(0, &file(OPEN_ENDED, &lines(1_025))),
+        "refused 9 line 1026\n"
+    );
+    // At once: what stands behind that line is not looked at.
+    let cut = file(OPEN_ENDED, &lines(1_025));
+    assert_eq!(
+        ask(0, cut.trim_end_matches(&end_line(1_025))),
+        "refused 9 line 1026\n"
+    );
+}
+
+#[test]
+fn many_lines_of_one_run() {
+    let lines: Vec<(u64, u32, i32)> = vec![(ABSENT, 2, 1); 20_000];
+    assert_eq!(
+        ask(80_000, &file(OPEN_ENDED, &lines)),
+        "complete 80000/80000 100%\n"
+    );
+}

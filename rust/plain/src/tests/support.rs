@@ -1,0 +1,279 @@
+//! What the tests share: a small seeded generator, lent memory, and the lines of a file.
+
+use crate::face;
+use crate::window::HeadFields;
+
+/// A small generator of evenly spread 64-bit numbers (splitmix), the same for the same seed.
+pub struct Generator(u64);
+
+impl Generator {
+    pub fn new(seed: u64) -> Self {
+        Generator(seed)
+    }
+
+    pub fn next(&mut self) -> u64 {
+        self.0 = self.0.wrapping_add(0x9e37_79b9_7f4a_7c15);
+        let mut mixed = self.0;
+        mixed = (mixed ^ (mixed >> 30)).wrapping_mul(0xbf58_476d_1ce4_e5b9);
+        mixed = (mixed ^ (mixed >> 27)).wrapping_mul(0x94d0_49bb_1331_11eb);
+        mixed ^ (mixed >> 31)
+    }
+
+    /// A number below a bound that is not 0.
+    pub fn below(&mut self, bound: u64) -> u64 {
+        self.next() % bound
+    }
+
+    /// A number from the first to the last, both included.
+    pub fn between(&mut self, first: u64, last: u64) -> u64 {
+        first + self.below(last - first + 1)
+    }
+
+    pub fn one_in(&mut self, many: u64) -> bool {
+        self.below(many) == 0
+    }
+
+    pub fn pick<T: Copy>(&mut self, values: &[T]) -> T {
+        values[self.below(values.len() as u64) as usize]
+    }
+}
+
+/// A record and a table, with the face's calls upon them. Every method holds the call to what
+/// the face promises of memory on a refusal.
+#[derive(Clone, Debug, PartialEq, Eq)]
+pub struct Lent {
+    pub record: Vec<u64>,
+    pub table: Vec<u64>,
+}
+
+pub const TIMESCALE: usize = 0;
+pub const OFFSET: usize = 1;
+pub const START: usize = 2;
+pub const DURATION: usize = 3;
+pub const DEPTH: usize = 4;
+pub const FIRST_NUMBER: usize = 5;
+pub const ACCEPTED: usize = 6;
+pub const DROPPED: usize = 7;
+pub const NEXT_TICK: usize = 8;
+pub const GREATEST_CLOCK: usize = 9;
+pub const RUNS_USED: usize = 10;
+
+impl Lent {
+    /// Memory that holds anything.
+    pub fn anything(table_words: usize) -> Self {
+        Lent {
+            record: vec![77; 11],
+            table: vec![99; table_words],
+        }
+    }
+
+    /// Memory with a timeline opened in it.
+    pub fn opened(head: HeadFields, first_tick: u64, table_words: usize) -> Self {
+        let mut lent = Lent::anything(table_words);
+        assert_eq!(lent.open(head, first_tick), 0);
+        lent
+    }
+
+    pub fn open(&mut self, head: HeadFields, first_tick: u64) -> u32 {
+        let before = self.clone();
+        let answer = face::open(
+            &mut self.record,
+            &mut self.table,
+            u32::try_from(head.timescale).expect("a timescale of 32 bits"),
+            head.offset,
+            head.start,
+            head.duration,
+            head.depth,
+            head.first_number,
+            first_tick,
+        );
+        if answer == 0 {
+            assert!(self.table.iter().all(|word| *word == 0));
+        } else {
+            assert_eq!(self.record, vec![0; 11]);
+            assert_eq!(self.table, before.table);
+        }
+        answer
+    }
+
+    fn change(&mut self, call: impl FnOnce(&mut [u64], &mut [u64]) -> u32) -> u32 {
+        let before = self.clone();
+        let answer = call(&mut self.record, &mut self.table);
+        if answer != 0 {
+            assert_eq!(*self, before);
+        }
+        answer
+    }
+
+    pub fn append(&mut self, start: u64, duration: u32, count: u32) -> u32 {
+        self.change(|record, table| face::append(record, table, start, duration, count))
+    }
+
+    pub fn append_stamp(&mut self, stamp: u32, duration: u32, count: u32) -> u32 {
+        self.change(|record, table| face::append_stamp(record, table, stamp, duration, count))
+    }
+
+    /// An append that joins, whatever the next tick.
+    pub fn join(&mut self, duration: u32, count: u32) -> u32 {
+        self.append(self.record[NEXT_TICK], duration, count)
+    }
+
+    pub fn trim(&mut self, clock: u64) -> u32 {
+        self.change(|record, table| face::trim(record, table, clock))
+    }
+
+    pub fn verdict(&self, clock: u64) -> Result<[u64; 5], u32> {
+        asked(5555, |out| {
+            face::verdict(&self.record, &self.table, clock, out)
+        })
+    }
+
+    pub fn verdict_whole(&self) -> Result<[u64; 5], u32> {
+        asked(5555, |out| {
+            face::verdict_whole(&self.record, &self.table, out)
+        })
+    }
+
+    pub fn availability(&self, number: u32) -> Result<[i64; 3], u32> {
+        asked(5555, |out| {
+            face::availability(&self.record, &self.table, number, out)
+        })
+    }
+
+    pub fn touching(&self, a: u64, b: u64) -> Result<[u64; 2], u32> {
+        asked(5555, |out| {
+            face::touching(&self.record, &self.table, a, b, out)
+        })
+    }
+
+    pub fn available_at(&self, number: u32, clock: u64) -> Result<bool, u32> {
+        crate::record::available_at(&self.record, &self.table, number, clock)
+            .map_err(|refusal| refusal.number())
+    }
+
+    /// Writes into an output of so many bytes.
+    pub fn write_into(&self, output_bytes: usize) -> Result<Vec<u8>, u32> {
+        let mut bytes = vec![b'#'; output_bytes];
+        let answer: Result<[u64; 1], u32> = asked(5555, |out| {
+            face::write(&self.record, &self.table, &mut bytes, out)
+        });
+        let length = answer.map_or(0, |[length]| length as usize);
+        assert!(bytes[length..].iter().all(|byte| *byte == b'#'));
+        bytes.truncate(length);
+        answer.map(|_| bytes)
+    }
+
+    pub fn write(&self) -> Result<Vec<u8>, u32> {
+        self.write_into(200 + 100 * self.table.len())
+    }
+
+    /// Reads a file; a refusal comes with its line.
+    pub fn read(&mut self, bytes: &[u8]) -> Result<(), (u32, u64)> {
+        let mut out = [5555];
+        let answer = face::read(bytes, &mut self.record, &mut self.table, &mut out);
+        if answer == 0 {
+            assert_eq!(out, [0]);
+            return Ok(());
+        }
+        assert_eq!(self.record, vec![0; 11]);
+        assert!(self.table.iter().all(|word| *word == 0));
+        Err((answer, out[0]))
+    }
+}
+
+/// The answer of a call with an out: the words, or the refusal with the out as it came.
+fn asked<T, const N: usize>(before: T, call: impl FnOnce(&mut [T]) -> u32) -> Result<[T; N], u32>
+where
+    T: Copy + PartialEq + std::fmt::Debug,
+{
+    let mut out = [before; N];
+    match call(&mut out) {
+        0 => Ok(out),
+        refusal => {
+            assert_eq!(out, [before; N]);
+            Err(refusal)
+        }
+    }
+}
+
+pub fn head_line(head: HeadFields) -> String {
+    format!(
+        "01{:08x}{:016x}{:016x}{:016x}{:016x}{:08x}\n",
+        head.timescale, head.offset, head.start, head.duration, head.depth, head.first_number
+    )
+}
+
+pub fn s_line(t: u64, d: u32, r: i32) -> String {
+    format!("02{:016x}{:08x}{:08x}\n", t, d, r)
+}
+
+/// The t of an S line that has none.
+pub const ABSENT: u64 = u64::MAX;
+
+pub fn end_line(s_lines: u32) -> String {
+    format!("03{:08x}\n", s_lines)
+}
+
+pub fn clock_line(clock: u64) -> String {
+    format!("04{:016x}\n", clock)
+}
+
+/// The clock of a clock line that asks for the whole period.
+pub const WHOLE: u64 = u64::MAX;
+
+/// A file from its head and its S lines.
+pub fn file(head: HeadFields, s_lines: &[(u64, u32, i32)]) -> String {
+    let mut text = head_line(head);
+    for (t, d, r) in s_lines {
+        text += &s_line(*t, *d, *r);
+    }
+    text + &end_line(s_lines.len() as u32)
+}
+
+/// Reads a file for a table of so many words.
+pub fn read_into(table_words: usize, text: &str) -> Result<Lent, (u32, u64)> {
+    let mut lent = Lent::anything(table_words);
+    lent.read(text.as_bytes()).map(|()| lent)
+}
+
+/// The refusal and the line of a file in a table of 30 words.
+pub fn refused(text: &str) -> (u32, u64) {
+    read_into(30, text).expect_err("a file that is refused")
+}
+
+pub const CASE_A: HeadFields = HeadFields {
+    timescale: 10,
+    offset: 100,
+    start: 30_000,
+    duration: 10_000,
+    depth: 0,
+    first_number: 0,
+};
+
+pub const CASE_B: HeadFields = HeadFields {
+    timescale: 1000,
+    offset: 0,
+    start: 0,
+    duration: 0,
+    depth: 10_000,
+    first_number: 1,
+};
+
+pub const CASE_D: HeadFields = HeadFields {
+    timescale: 3,
+    offset: 0,
+    start: 0,
+    duration: 500,
+    depth: 0,
+    first_number: 0,
+};
+
+/// A head with neither an end nor a depth, one tick a millisecond.
+pub const OPEN_ENDED: HeadFields = HeadFields {
+    timescale: 1000,
+    offset: 0,
+    start: 0,
+    duration: 0,
+    depth: 0,
+    first_number: 0,
+};
