@@ -1,5 +1,5 @@
-// The paper's cases for opening, appending and trimming, run over tables of four lengths. What must
-// come out is stored from the separate Rust one (rust/plain/examples/cases.rs).
+// The paper's cases for the calls that change and those that look, run over tables of four lengths.
+// What must come out is stored from the separate Rust one (rust/plain/examples/cases.rs).
 use agreement::Record;
 use timeline::Changed;
 use units::Millis;
@@ -10,9 +10,11 @@ use units::Timescale;
 use units::WideTick;
 use window::Head;
 
+mod look;
 mod show;
 mod steps;
 
+use look::look;
 use show::show;
 use steps::COUNT;
 use steps::STEPS;
@@ -21,7 +23,7 @@ fn low(word: u64) -> u32 {
     (word % 4294967296) as u32
 }
 
-fn step(rec: Record, table: &mut [u64], s: [u64; 8]) -> Changed {
+fn change(rec: Record, table: &mut [u64], s: [u64; 8]) -> Changed {
     let call = s[0];
     match call {
         0 => {
@@ -41,14 +43,22 @@ fn step(rec: Record, table: &mut [u64], s: [u64; 8]) -> Changed {
     }
 }
 
+fn step(i: u64, rec: Record, table: &mut [u64], s: [u64; 8]) -> Record {
+    if 3 < s[0] {
+        look(i, rec, table, s);
+        return rec;
+    }
+    let changed = change(rec, table, s);
+    show(i, changed, table);
+    changed.rec
+}
+
 fn run(table: &mut [u64]) {
     let steps = STEPS;
     let mut rec = timeline::zero_record();
     let mut i = 0;
     while i < COUNT {
-        let changed = step(rec, table, steps[i]);
-        show(i as u64, changed, table);
-        rec = changed.rec;
+        rec = step(i as u64, rec, table, steps[i]);
         i += 1;
     }
 }

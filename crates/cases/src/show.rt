@@ -4,7 +4,7 @@ use libc::STDOUT_FILENO;
 use timeline::Changed;
 use timeline::Outcome;
 
-fn put(n: u64) {
+pub(crate) fn put(n: u64) {
     io::write_all(STDOUT_FILENO, b" ");
     io::print_decimal(STDOUT_FILENO, n);
 }

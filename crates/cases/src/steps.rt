@@ -1,7 +1,9 @@
-// The paper's cases for opening, appending and trimming, with its limits: eight words a step. The
-// first word is the call: 0 open (timescale, offset, start, duration, depth, first number, first
-// tick), 1 append (start, duration, count), 2 append by stamp, 3 trim (clock).
-pub const COUNT: usize = 56;
+// The paper's cases for the calls that change and for those that look, with the limits: eight words
+// a step. The first word is the call: 0 open (timescale, offset, start, duration, depth, first
+// number, first tick), 1 append (start, duration, count), 2 append by stamp, 3 trim (clock), 4
+// verdict (clock), 5 verdict of the whole period, 6 availability (number), 7 touching (a, b), 8
+// available at (number, clock).
+pub const COUNT: usize = 107;
 
 pub const STEPS: [[u64; 8]; COUNT] = [
     // A: an offset, a known end, no depth
@@ -9,6 +11,19 @@ pub const STEPS: [[u64; 8]; COUNT] = [
     // one reference of 40, one of 10
     [1, 111, 40, 1, 0, 0, 0, 0],
     [1, 151, 10, 1, 0, 0, 0, 0],
+    // A: the whole period, availability of both, runs that touch or only meet
+    [5, 0, 0, 0, 0, 0, 0, 0],
+    [6, 0, 0, 0, 0, 0, 0, 0],
+    [6, 1, 0, 0, 0, 0, 0, 0],
+    [6, 2, 0, 0, 0, 0, 0, 0],
+    [8, 0, 35099, 0, 0, 0, 0, 0],
+    [8, 0, 35100, 0, 0, 0, 0, 0],
+    [7, 0, 111, 0, 0, 0, 0, 0],
+    [7, 0, 112, 0, 0, 0, 0, 0],
+    [7, 150, 152, 0, 0, 0, 0, 0],
+    [7, 161, 200, 0, 0, 0, 0, 0],
+    [7, 5, 5, 0, 0, 0, 0, 0],
+    [7, 0, 18446744073709551615, 0, 0, 0, 0, 0],
     // a gap, an overlap, no duration, no count
     [1, 170, 10, 1, 0, 0, 0, 0],
     [1, 160, 10, 1, 0, 0, 0, 0],
@@ -22,14 +37,42 @@ pub const STEPS: [[u64; 8]; COUNT] = [
     // B: a depth, no end
     [0, 1000, 0, 0, 0, 10000, 1, 0],
     [1, 0, 4000, 5, 0, 0, 0, 0],
+    // B without trims: verdicts, availability
+    [4, 0, 0, 0, 0, 0, 0, 0],
+    [4, 1, 0, 0, 0, 0, 0, 0],
+    [4, 14000, 0, 0, 0, 0, 0, 0],
+    [4, 20000, 0, 0, 0, 0, 0, 0],
+    [4, 20001, 0, 0, 0, 0, 0, 0],
+    [4, 100000000000, 0, 0, 0, 0, 0, 0],
+    [4, 100000000001, 0, 0, 0, 0, 0, 0],
+    [5, 0, 0, 0, 0, 0, 0, 0],
+    [6, 1, 0, 0, 0, 0, 0, 0],
+    [6, 3, 0, 0, 0, 0, 0, 0],
+    [6, 5, 0, 0, 0, 0, 0, 0],
+    [6, 6, 0, 0, 0, 0, 0, 0],
+    [6, 0, 0, 0, 0, 0, 0, 0],
+    [8, 3, 11999, 0, 0, 0, 0, 0],
+    [8, 3, 12000, 0, 0, 0, 0, 0],
+    [8, 3, 25999, 0, 0, 0, 0, 0],
+    [8, 3, 26000, 0, 0, 0, 0, 0],
+    [8, 3, 100000000001, 0, 0, 0, 0, 0],
     // trims
     [3, 13999, 0, 0, 0, 0, 0, 0],
     [3, 14000, 0, 0, 0, 0, 0, 0],
     [3, 14001, 0, 0, 0, 0, 0, 0],
     [3, 18000, 0, 0, 0, 0, 0, 0],
+    // a clock before the greatest; the numbers after a trim
+    [4, 17999, 0, 0, 0, 0, 0, 0],
+    [4, 18000, 0, 0, 0, 0, 0, 0],
+    [6, 2, 0, 0, 0, 0, 0, 0],
+    [6, 3, 0, 0, 0, 0, 0, 0],
     [3, 1, 0, 0, 0, 0, 0, 0],
     [3, 100000000001, 0, 0, 0, 0, 0, 0],
     [3, 31000, 0, 0, 0, 0, 0, 0],
+    // nothing kept
+    [4, 31000, 0, 0, 0, 0, 0, 0],
+    [6, 6, 0, 0, 0, 0, 0, 0],
+    [7, 0, 100, 0, 0, 0, 0, 0],
     // spent at once, and in part
     [1, 20000, 500, 2, 0, 0, 0, 0],
     [1, 21000, 300, 4, 0, 0, 0, 0],
@@ -43,7 +86,15 @@ pub const STEPS: [[u64; 8]; COUNT] = [
     // D: a period end inside a tick
     [0, 3, 0, 0, 500, 0, 0, 0],
     [1, 0, 1, 2, 0, 0, 0, 0],
+    // D: both ticks, then one
+    [5, 0, 0, 0, 0, 0, 0, 0],
     [1, 2, 1, 1, 0, 0, 0, 0],
+    // one reference of 1 lacks tick 1
+    [0, 3, 0, 0, 500, 0, 0, 0],
+    [1, 0, 1, 1, 0, 0, 0, 0],
+    [5, 0, 0, 0, 0, 0, 0, 0],
+    [4, 333, 0, 0, 0, 0, 0, 0],
+    [4, 334, 0, 0, 0, 0, 0, 0],
     // a depth and an end: the last, which hangs over the end, is spent once the window has passed it
     [0, 1, 0, 0, 10000, 5000, 0, 0],
     [1, 0, 20, 1, 0, 0, 0, 0],
@@ -78,4 +129,13 @@ pub const STEPS: [[u64; 8]; COUNT] = [
     [3, 100000000000, 0, 0, 0, 0, 0, 0],
     [1, 0, 1, 2147483648, 0, 0, 0, 0],
     [1, 2147483648, 1, 1, 0, 0, 0, 0],
+    // an offset past the references: places before the period start
+    [0, 1000, 5000, 2, 0, 0, 7, 0],
+    [1, 0, 1000, 4, 0, 0, 0, 0],
+    [6, 7, 0, 0, 0, 0, 0, 0],
+    [4, 5, 0, 0, 0, 0, 0, 0],
+    [1, 4000, 2000, 1, 0, 0, 0, 0],
+    [6, 11, 0, 0, 0, 0, 0, 0],
+    [6, 7, 0, 0, 0, 0, 0, 0],
+    [4, 3, 0, 0, 0, 0, 0, 0],
 ];

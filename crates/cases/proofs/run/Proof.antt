@@ -9,10 +9,10 @@ use Rattle.cases.proofs.run.Statement.{statement}
 use Rattle.cases.proofs.run.Tie as tie
 
 abbrev Inv-loop : tie.InvT-loop
-Inv-loop table₀ steps rec₀ i₀ table rec i = (i ≤ 56) × (length steps ≡ 56) × (length table ≡ length table₀)
+Inv-loop table₀ steps rec₀ i₀ table rec i = (i ≤ 107) × (length steps ≡ 107) × (length table ≡ length table₀)
 
 abbrev μ-loop : tie.MeasureT-loop
-μ-loop table₀ steps rec₀ i₀ table rec i = 56 - i
+μ-loop table₀ steps rec₀ i₀ table rec i = 107 - i
 
 -- a call keeps the length that the turn began with
 longer : (after before first : List ℕ) → length after ≡ length before → length before ≡ length first → length after ≡ length first
@@ -28,7 +28,6 @@ run-spec =
     (λ c. (omega arith, refl, refl))
     (λ c. search needs)
     (λ c. search needs)
-    (λ c κs. search needs)
     (λ c κs. search needs)
     (λ c. search needs)
     (λ c. search needs)

@@ -1,0 +1,14 @@
+-- Laws of the answers that belong to no one function.
+pub mod Guards
+pub mod Counting
+pub mod Covering
+pub mod Judging
+pub mod Agreed
+pub mod Percents
+pub mod Numbering
+pub mod Offering
+pub mod Spanning
+pub mod Exact
+pub mod Worked
+pub mod Completeness
+pub mod Closed

@@ -1,0 +1,60 @@
+-- The verdict of a window: nothing is needed; or all that is needed is covered, and how much that is; or how much is needed,
+-- how much of it is covered, and the lowest tick that is not. Only kept references cover. A verdict at a clock is refused
+-- with 2, 10 or 11, one of the whole period with 2 or 19. Paper: Verdict and availability; Refusal numbers.
+use Prim.Native.Nat.{ℕ, _<_}
+use mathlib.Core.Path.{_≡_}
+use mathlib.Core.Bool.{Bool, true, false, cond}
+use mathlib.Core.List.{List}
+use lib.Dec.{eqb, leb}
+use Rattle.units.specs.declared.Millis.{Millis}
+use Rattle.units.specs.Limits.{millisHeld}
+use Rattle.window.specs.declared.Head.{Head}
+use Rattle.window.specs.declared.Reference.{Reference}
+use Rattle.window.specs.Place.{endKnown}
+use Rattle.window.specs.Window.{Stretch, windowAt, wholePeriod, tickNeeded}
+use Rattle.agreement.specs.declared.Record.{Record}
+use Rattle.agreement.specs.declared.refusal.Refusal.the-variants.{Disagreement, ClockLimit, EarlierClock, EndUnknown}
+use Rattle.agreement.specs.Agreement.{agrees, kept}
+use Rattle.answers.specs.declared.Verdict.{Verdict}
+use Rattle.answers.specs.declared.Verdict.the-variants.{Nothing, Complete, Lacking, Refused}
+use Rattle.answers.specs.Cover.{coveredBy}
+use Rattle.answers.specs.Counts.{neededCount, coveredCount, lowestLacking}
+
+-- by how much is needed, how much of it is covered, and the lowest tick that is not
+abbrev pub judged : ℕ → ℕ → ℕ → Verdict
+judged needed covered lowest =
+    cond (eqb needed 0) Nothing (cond (eqb covered needed) (Complete needed) (Lacking needed covered (record { 0 = lowest })))
+
+abbrev pub verdictOf : Head → Stretch → List Reference → Verdict
+verdictOf h w rs = judged (neededCount h w) (coveredCount h w rs) (lowestLacking h w rs)
+
+abbrev pub verdictAt : Record → List ℕ → Millis → Verdict
+verdictAt rec ws c =
+    cond (agrees rec ws)
+    (cond (millisHeld c)
+    (cond (leb (rec .clock .0) (c .0)) (verdictOf (rec .head) (windowAt (rec .head) (c .0)) (kept rec ws)) (Refused EarlierClock))
+    (Refused ClockLimit))
+    (Refused Disagreement)
+
+abbrev pub verdictWhole : Record → List ℕ → Verdict
+verdictWhole rec ws =
+    cond (agrees rec ws)
+    (cond (endKnown (rec .head)) (verdictOf (rec .head) (wholePeriod (rec .head)) (kept rec ws)) (Refused EndUnknown))
+    (Refused Disagreement)
+
+abbrev pub complete : Verdict → Bool
+complete Nothing = false
+complete (Complete n) = true
+complete (Lacking n m k) = false
+complete (Refused r) = false
+
+-- what complete is to mean: one tick at least is needed, and every needed tick lies in a reference
+pub record Whole (h : Head) (w : Stretch) (rs : List Reference) : Type 0 where
+  pub some : (k : ℕ) × (tickNeeded h w k ≡ true)
+  pub each : (k : ℕ) → tickNeeded h w k ≡ true → coveredBy rs k ≡ true
+
+-- what the tick that a verdict names is to mean: it is needed, lies in no reference, and each earlier needed tick lies in one
+pub record Lowest (h : Head) (w : Stretch) (rs : List Reference) (k : ℕ) : Type 0 where
+  pub needed : tickNeeded h w k ≡ true
+  pub uncovered : coveredBy rs k ≡ false
+  pub first : (j : ℕ) → j < k → tickNeeded h w j ≡ true → coveredBy rs j ≡ true

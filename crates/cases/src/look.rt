@@ -1,0 +1,85 @@
+// The answers of the calls that look, printed: the number of the refusal, 0 where there is none, and
+// the words of the answer.
+use crate::show::put;
+use agreement::Record;
+use answers::Availability;
+use answers::AvailableAt;
+use answers::Percent;
+use answers::Touching;
+use answers::Verdict;
+use libc::STDOUT_FILENO;
+use units::Millis;
+use units::Number;
+use units::WideTick;
+
+fn row(number: u64, a: u64, b: u64, c: u64, d: u64, e: u64) {
+    put(number);
+    io::write_all(STDOUT_FILENO, b" |");
+    put(a);
+    put(b);
+    put(c);
+    put(d);
+    put(e);
+}
+
+fn whole(percent: Percent) -> u64 {
+    match percent {
+        Percent::Of(n) => n,
+        Percent::Undefined => 0,
+    }
+}
+
+fn put_verdict(verdict: Verdict) {
+    let percent = whole(verdict.percent());
+    match verdict {
+        Verdict::Nothing => row(0, 0, 0, 0, 0, percent),
+        Verdict::Complete(n) => row(0, 1, n, n, 0, percent),
+        Verdict::Lacking(n, m, k) => row(0, 2, n, m, k.0, percent),
+        Verdict::Refused(why) => row(why.number() as u64, 0, 0, 0, 0, percent),
+    }
+}
+
+// Whether it ends; its points are asked through call 8, at the clocks around them.
+fn put_availability(availability: Availability) {
+    match availability {
+        Availability::Ends(_, _) => row(0, 1, 0, 0, 0, 0),
+        Availability::NeverEnds(_) => row(0, 0, 0, 0, 0, 0),
+        Availability::Refused(why) => row(why.number() as u64, 0, 0, 0, 0, 0),
+    }
+}
+
+fn put_touching(touching: Touching, words: usize) {
+    match touching {
+        Touching::Words(from, to) => row(0, from as u64, to as u64, words as u64, 0, 0),
+        Touching::Refused(why) => row(why.number() as u64, 0, 0, words as u64, 0, 0),
+    }
+}
+
+fn put_available(available: AvailableAt) {
+    match available {
+        AvailableAt::Yes => row(0, 1, 0, 0, 0, 0),
+        AvailableAt::No => row(0, 0, 0, 0, 0, 0),
+        AvailableAt::Refused(why) => row(why.number() as u64, 0, 0, 0, 0, 0),
+    }
+}
+
+// Calls 4 to 8: verdict at a clock, of the whole period, availability of a number, the runs that
+// touch a span, and whether a number is available at a clock.
+pub fn look(step: u64, rec: Record, table: &[u64], s: [u64; 8]) {
+    io::print_decimal(STDOUT_FILENO, step);
+    io::write_all(STDOUT_FILENO, b":");
+    let call = s[0];
+    match call {
+        4 => put_verdict(answers::verdicts::verdict(rec, table, Millis(s[1]))),
+        5 => put_verdict(answers::verdicts::verdict_whole(rec, table)),
+        6 => put_availability(answers::times::availability(rec, table, Number(s[1]))),
+        7 => {
+            let a = WideTick(s[1]);
+            let b = WideTick(s[2]);
+            let part = answers::spans::touching(rec, table, a, b);
+            put_touching(answers::spans::touching_words(rec, table, a, b), part.len());
+        }
+        _ => put_available(answers::times::available_at(rec, table, Number(s[1]), Millis(s[2]))),
+    }
+    io::write_all(STDOUT_FILENO, b"\n");
+}
