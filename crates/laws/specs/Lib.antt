@@ -1,1 +1,3 @@
 pub mod ByHand
+pub mod Calls
+pub mod History

@@ -68,7 +68,7 @@ module _ (h : Head) (c : ℕ) where
       go true y k = k
       go false y k = ap₂ _&&_ y k
 
-  unspent-few : (rs : List Reference) → length (unspent h c rs) ≤ length rs
+  pub unspent-few : (rs : List Reference) → length (unspent h c rs) ≤ length rs
   unfolding unspent
   unspent-few [] = le-refl 0
   unspent-few (r ∷ rs) = go (passed h (endOf r) c) (unspent-few rs)
@@ -78,7 +78,7 @@ module _ (h : Head) (c : ℕ) where
       go false k = omega arith
 
   -- what is left of joined references stands behind the rest
-  unspent-suffix : (t : ℕ) (rs : List Reference) → Joined t rs → (n : ℕ) × (unspent h c rs ≡ drop n rs)
+  pub unspent-suffix : (t : ℕ) (rs : List Reference) → Joined t rs → (n : ℕ) × (unspent h c rs ≡ drop n rs)
   unfolding unspent coming
   unspent-suffix t [] j = (0, refl)
   unspent-suffix t (r ∷ rs) j = go (passed h (endOf r) c) refl (unspent-suffix (endOf r) rs (j .1))
@@ -301,7 +301,7 @@ refused-not : (why : Refusal) → Refused why ≡ Accepted → ⊥
 refused-not why e = let z : _≡_ {A = ℕ} 0 1 = cc in suc-ne-zero 0 (sym z)
 
 -- past a test that refuses where it fails, and past one that refuses where it passes
-past-if : (b : Bool) (x : Outcome) (why : Refusal) → cond b x (Refused why) ≡ Accepted → (b ≡ true) × (x ≡ Accepted)
+pub past-if : (b : Bool) (x : Outcome) (why : Refusal) → cond b x (Refused why) ≡ Accepted → (b ≡ true) × (x ≡ Accepted)
 past-if true x why e = (refl, e)
 past-if false x why e = absurd (refused-not why e)
 
