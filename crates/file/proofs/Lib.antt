@@ -1,0 +1,12 @@
+-- Laws of the file, which belong to no one function.
+pub mod Counts
+pub mod Steps
+pub mod Places
+pub mod Cutting
+pub mod Sounding
+pub mod Pieces
+pub mod Output
+pub mod Whole
+pub mod Again
+pub mod Back
+pub mod Stable

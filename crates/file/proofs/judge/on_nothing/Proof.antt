@@ -1,0 +1,27 @@
+-- `on_nothing` meets its contract, either way.
+use borrow.Author.Needs.{needs}
+use Rattle.file.proofs.Places.{nothing-misplaced, nothing-head}
+use Rattle.file.proofs.judge.on_nothing.Statement.{statement}
+use Rattle.file.proofs.judge.on_nothing.Tie as tie
+
+returns : tie.Need-returns
+returns c =
+    let keys = c .before .before in
+    nothing-misplaced (keys .before .args .reading) (keys .before .args .frame) _ (c .before .misplaced .ensures) _ (c .refuse .ensures) (keys .match .keys2)
+
+returns-2 : tie.Need-returns-2
+returns-2 c =
+    let told = c .before .before in
+    let start = told .before .before in
+    nothing-head (start .args .reading) (start .args .frame) _ (told .frame .given .1) _ (c .take-head .ensures)
+
+pub on-nothing-spec : {M : Type 1} → statement M
+on-nothing-spec =
+    tie.close
+    (tie.spec
+    (λ c. search needs)
+    (λ c κs. search needs)
+    (λ c κs. search needs)
+    returns
+    (λ c κs. search needs)
+    returns-2)

@@ -1,0 +1,57 @@
+// The whole file: read into a table as opening plus appends, at once or piece by piece, and written
+// from what a record and a table keep.
+use agreement::Record;
+use agreement::Refusal;
+use timeline::Outcome;
+
+mod feeding;
+mod judge;
+mod writing;
+
+pub use feeding::begin;
+pub use feeding::feed;
+pub use feeding::finish;
+pub use feeding::read;
+pub use writing::write;
+
+// A t of all ones is absent.
+pub(crate) const ABSENT: u64 = 18_446_744_073_709_551_615;
+
+// Which line may come next: the head, an S line, an S line or the end, the end alone after a negative
+// r, nothing more; or no line matters, since one was refused.
+pub enum Stage {
+    Nothing,
+    Headed,
+    Open,
+    Filled,
+    Ended,
+    Refused(Refusal),
+}
+
+// How far a file is read: the stage, the lines taken, and the record that they opened and appended to.
+pub struct Reading {
+    pub stage: Stage,
+    pub lines: u64,
+    pub rec: Record,
+}
+
+// A reader that is fed a file piece by piece: how far it is, and the line that is not ended yet. Of a
+// line it holds one byte more than the longest frame has, which is enough to see that it is too long.
+pub struct Reader {
+    pub reading: Reading,
+    pub line: [u8; 83],
+    pub held: usize,
+}
+
+// What a reading came to: the record, zero where the file is refused, and then the refused line.
+pub struct ReadAnswer {
+    pub outcome: Outcome,
+    pub rec: Record,
+    pub line: u64,
+}
+
+// The length written, or why nothing was.
+pub enum WriteAnswer {
+    Written(usize),
+    Refused(Refusal),
+}
