@@ -65,7 +65,7 @@ fn put_available(available: AvailableAt) {
 
 // Calls 4 to 8: verdict at a clock, of the whole period, availability of a number, the runs that
 // touch a span, and whether a number is available at a clock.
-pub fn look(step: u64, rec: Record, table: &[u64], s: [u64; 8]) {
+pub(crate) fn look(step: u64, rec: Record, table: &[u64], s: [u64; 8]) {
     io::print_decimal(STDOUT_FILENO, step);
     io::write_all(STDOUT_FILENO, b":");
     let call = s[0];

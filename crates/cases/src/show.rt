@@ -38,7 +38,7 @@ fn put_words(words: &[u64]) {
     }
 }
 
-pub fn show(step: u64, changed: Changed, table: &[u64]) {
+pub(crate) fn show(step: u64, changed: Changed, table: &[u64]) {
     let rec = changed.rec;
     let outcome = changed.outcome;
     io::print_decimal(STDOUT_FILENO, step);
