@@ -1,6 +1,7 @@
 // The answers of the calls that look, printed: the number of the refusal, 0 where there is none, and
 // the words of the answer.
 use crate::show::put;
+use crate::steps::PLACES;
 use agreement::Record;
 use answers::Availability;
 use answers::AvailableAt;
@@ -39,7 +40,7 @@ fn put_verdict(verdict: Verdict) {
     }
 }
 
-// Whether it ends; its points are asked through call 8, at the clocks around them.
+// Whether it ends; its points are asked by `clock`, at the clocks around them.
 fn put_availability(availability: Availability) {
     match availability {
         Availability::Ends(_, _) => row(0, 1, 0, 0, 0, 0),
@@ -63,17 +64,14 @@ fn put_available(available: AvailableAt) {
     }
 }
 
-// Calls 4 to 8: verdict at a clock, of the whole period, availability of a number, the runs that
-// touch a span, and whether a number is available at a clock.
-pub(crate) fn look(step: u64, rec: Record, table: &[u64], s: [u64; 8]) {
-    io::print_decimal(STDOUT_FILENO, step);
-    io::write_all(STDOUT_FILENO, b":");
-    let call = s[0];
-    match call {
-        4 => put_verdict(answers::verdicts::verdict(rec, table, Millis(s[1]))),
-        5 => put_verdict(answers::verdicts::verdict_whole(rec, table)),
-        6 => put_availability(answers::times::availability(rec, table, Number(s[1]))),
-        7 => {
+// Verdict at a clock, of the whole period, availability of a number, the runs that touch a span, and
+// whether a number is available at a clock.
+pub(crate) fn look(name: u8, rec: Record, table: &[u64], s: [u64; PLACES]) {
+    match name {
+        b'v' => put_verdict(answers::verdicts::verdict(rec, table, Millis(s[1]))),
+        b'w' => put_verdict(answers::verdicts::verdict_whole(rec, table)),
+        b'n' => put_availability(answers::times::availability(rec, table, Number(s[1]))),
+        b'r' => {
             let a = WideTick(s[1]);
             let b = WideTick(s[2]);
             let part = answers::spans::touching(rec, table, a, b);

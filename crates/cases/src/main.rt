@@ -1,6 +1,9 @@
-// The paper's cases for the calls that change and those that look, run over tables of four lengths.
-// What must come out is stored from the separate Rust one (rust/plain/examples/cases.rs).
+// The paper's cases for the calls that change and those that look, with the limits, run over tables of
+// four lengths. Standard input has the steps, a line each. What must come out is stored from the
+// separate Rust one (rust/plain/examples/cases.rs), which reads the same steps.
 use agreement::Record;
+use libc::STDIN_FILENO;
+use libc::STDOUT_FILENO;
 use timeline::Changed;
 use units::Millis;
 use units::Number;
@@ -16,60 +19,90 @@ mod steps;
 
 use look::look;
 use show::show;
-use steps::COUNT;
-use steps::STEPS;
+use steps::PLACES;
+use steps::line_end;
+use steps::numbers;
+use steps::past_feed;
 
 fn low(word: u64) -> u32 {
     (word % 4294967296) as u32
 }
 
-fn change(rec: Record, table: &mut [u64], s: [u64; 8]) -> Changed {
-    let call = s[0];
-    match call {
-        0 => {
-            let head = Head {
-                timescale: Timescale(s[1]),
-                offset: Tick(s[2]),
-                start: Millis(s[3]),
-                duration: Millis(s[4]),
-                depth: Millis(s[5]),
-                first: Number(s[6]),
-            };
-            timeline::open(head, Tick(s[7]), table)
-        }
-        1 => timeline::append(rec, table, WideTick(s[1]), low(s[2]), low(s[3])),
-        2 => timeline::append_stamp(rec, table, Stamp(low(s[1])), low(s[2]), low(s[3])),
+fn open(table: &mut [u64], s: [u64; PLACES]) -> Changed {
+    let head = Head {
+        timescale: Timescale(s[1]),
+        offset: Tick(s[2]),
+        start: Millis(s[3]),
+        duration: Millis(s[4]),
+        depth: Millis(s[5]),
+        first: Number(s[6]),
+    };
+    timeline::open(head, Tick(s[7]), table)
+}
+
+fn changes(name: u8) -> bool {
+    match name {
+        b'o' | b'a' | b's' | b't' => true,
+        _ => false,
+    }
+}
+
+fn change(name: u8, rec: Record, table: &mut [u64], s: [u64; PLACES]) -> Changed {
+    match name {
+        b'o' => open(table, s),
+        b'a' => timeline::append(rec, table, WideTick(s[1]), low(s[2]), low(s[3])),
+        b's' => timeline::append_stamp(rec, table, Stamp(low(s[1])), low(s[2]), low(s[3])),
         _ => timeline::trim(rec, table, Millis(s[1])),
     }
 }
 
-fn step(i: u64, rec: Record, table: &mut [u64], s: [u64; 8]) -> Record {
-    if 3 < s[0] {
-        look(i, rec, table, s);
+fn call(name: u8, rec: Record, table: &mut [u64], s: [u64; PLACES]) -> Record {
+    if !changes(name) {
+        look(name, rec, table, s);
         return rec;
     }
-    let changed = change(rec, table, s);
-    show(i, changed, table);
+    let changed = change(name, rec, table, s);
+    show(changed, table);
     changed.rec
 }
 
-fn run(table: &mut [u64]) {
-    let steps = STEPS;
+// A comment begins with '#'.
+fn step(rec: Record, table: &mut [u64], line: &[u8]) -> Record {
+    if line.len() == 0 {
+        return rec;
+    }
+    let name = line[0];
+    if name == b'#' {
+        return rec;
+    }
+    io::write_all(STDOUT_FILENO, line);
+    io::write_all(STDOUT_FILENO, b":");
+    call(name, rec, table, numbers(line))
+}
+
+fn run(table: &mut [u64], steps: &[u8]) {
     let mut rec = timeline::zero_record();
     let mut i = 0;
-    while i < COUNT {
-        rec = step(i as u64, rec, table, steps[i]);
-        i += 1;
+    while i < steps.len() {
+        let end = line_end(steps, i);
+        rec = step(rec, table, &steps[i..end]);
+        i = past_feed(steps, end);
     }
 }
 
-fn main() {
+fn run_all(steps: &[u8]) {
     let mut seven = [9u64; 7];
-    run(&mut seven);
+    run(&mut seven, steps);
     let mut three = [9u64; 3];
-    run(&mut three);
+    run(&mut three, steps);
     let mut two = [9u64; 2];
-    run(&mut two);
+    run(&mut two, steps);
     let mut none = [9u64; 0];
-    run(&mut none);
+    run(&mut none, steps);
+}
+
+fn main() {
+    let mut bytes = io::large_buffer();
+    let length = io::read_full(STDIN_FILENO, &mut bytes);
+    run_all(&bytes[..length]);
 }

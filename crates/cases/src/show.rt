@@ -1,4 +1,5 @@
-// One step, printed: its number, that of its outcome, the eleven words of the record, the table.
+// What a call that changes came to, printed: the number of its outcome, the eleven words of the record,
+// the table.
 use agreement::Record;
 use libc::STDOUT_FILENO;
 use timeline::Changed;
@@ -38,11 +39,9 @@ fn put_words(words: &[u64]) {
     }
 }
 
-pub(crate) fn show(step: u64, changed: Changed, table: &[u64]) {
+pub(crate) fn show(changed: Changed, table: &[u64]) {
     let rec = changed.rec;
     let outcome = changed.outcome;
-    io::print_decimal(STDOUT_FILENO, step);
-    io::write_all(STDOUT_FILENO, b":");
     put(number(outcome) as u64);
     io::write_all(STDOUT_FILENO, b" |");
     put_record(rec);

@@ -1,141 +1,74 @@
-// The paper's cases for the calls that change and for those that look, with the limits: eight words
-// a step. The first word is the call: 0 open (timescale, offset, start, duration, depth, first
-// number, first tick), 1 append (start, duration, count), 2 append by stamp, 3 trim (clock), 4
-// verdict (clock), 5 verdict of the whole period, 6 availability (number), 7 touching (a, b), 8
-// available at (number, clock).
-pub const COUNT: usize = 107;
+// A step is a line: the name of the call, then its numbers in decimal digits, a blank before each.
+ghost use mathlib.Core.Path.{_≡_};
+ghost use Prim.Native.Nat.{_≤_, _<_, _+_, min};
+ghost use lib.ListN.{length};
 
-pub const STEPS: [[u64; 8]; COUNT] = [
-    // A: an offset, a known end, no depth
-    [0, 10, 100, 30000, 10000, 0, 0, 111],
-    // one reference of 40, one of 10
-    [1, 111, 40, 1, 0, 0, 0, 0],
-    [1, 151, 10, 1, 0, 0, 0, 0],
-    // A: the whole period, availability of both, runs that touch or only meet
-    [5, 0, 0, 0, 0, 0, 0, 0],
-    [6, 0, 0, 0, 0, 0, 0, 0],
-    [6, 1, 0, 0, 0, 0, 0, 0],
-    [6, 2, 0, 0, 0, 0, 0, 0],
-    [8, 0, 35099, 0, 0, 0, 0, 0],
-    [8, 0, 35100, 0, 0, 0, 0, 0],
-    [7, 0, 111, 0, 0, 0, 0, 0],
-    [7, 0, 112, 0, 0, 0, 0, 0],
-    [7, 150, 152, 0, 0, 0, 0, 0],
-    [7, 161, 200, 0, 0, 0, 0, 0],
-    [7, 5, 5, 0, 0, 0, 0, 0],
-    [7, 0, 18446744073709551615, 0, 0, 0, 0, 0],
-    // a gap, an overlap, no duration, no count
-    [1, 170, 10, 1, 0, 0, 0, 0],
-    [1, 160, 10, 1, 0, 0, 0, 0],
-    [1, 161, 0, 1, 0, 0, 0, 0],
-    [1, 161, 10, 0, 0, 0, 0, 0],
-    // the last hangs over the period end, and none starts at or after it
-    [1, 161, 10, 4, 0, 0, 0, 0],
-    [1, 201, 10, 1, 0, 0, 0, 0],
-    // no depth: nothing inside the period is ever spent
-    [3, 100000000000, 0, 0, 0, 0, 0, 0],
-    // B: a depth, no end
-    [0, 1000, 0, 0, 0, 10000, 1, 0],
-    [1, 0, 4000, 5, 0, 0, 0, 0],
-    // B without trims: verdicts, availability
-    [4, 0, 0, 0, 0, 0, 0, 0],
-    [4, 1, 0, 0, 0, 0, 0, 0],
-    [4, 14000, 0, 0, 0, 0, 0, 0],
-    [4, 20000, 0, 0, 0, 0, 0, 0],
-    [4, 20001, 0, 0, 0, 0, 0, 0],
-    [4, 100000000000, 0, 0, 0, 0, 0, 0],
-    [4, 100000000001, 0, 0, 0, 0, 0, 0],
-    [5, 0, 0, 0, 0, 0, 0, 0],
-    [6, 1, 0, 0, 0, 0, 0, 0],
-    [6, 3, 0, 0, 0, 0, 0, 0],
-    [6, 5, 0, 0, 0, 0, 0, 0],
-    [6, 6, 0, 0, 0, 0, 0, 0],
-    [6, 0, 0, 0, 0, 0, 0, 0],
-    [8, 3, 11999, 0, 0, 0, 0, 0],
-    [8, 3, 12000, 0, 0, 0, 0, 0],
-    [8, 3, 25999, 0, 0, 0, 0, 0],
-    [8, 3, 26000, 0, 0, 0, 0, 0],
-    [8, 3, 100000000001, 0, 0, 0, 0, 0],
-    // trims
-    [3, 13999, 0, 0, 0, 0, 0, 0],
-    [3, 14000, 0, 0, 0, 0, 0, 0],
-    [3, 14001, 0, 0, 0, 0, 0, 0],
-    [3, 18000, 0, 0, 0, 0, 0, 0],
-    // a clock before the greatest; the numbers after a trim
-    [4, 17999, 0, 0, 0, 0, 0, 0],
-    [4, 18000, 0, 0, 0, 0, 0, 0],
-    [6, 2, 0, 0, 0, 0, 0, 0],
-    [6, 3, 0, 0, 0, 0, 0, 0],
-    [3, 1, 0, 0, 0, 0, 0, 0],
-    [3, 100000000001, 0, 0, 0, 0, 0, 0],
-    [3, 31000, 0, 0, 0, 0, 0, 0],
-    // nothing kept
-    [4, 31000, 0, 0, 0, 0, 0, 0],
-    [6, 6, 0, 0, 0, 0, 0, 0],
-    [7, 0, 100, 0, 0, 0, 0, 0],
-    // spent at once, and in part
-    [1, 20000, 500, 2, 0, 0, 0, 0],
-    [1, 21000, 300, 4, 0, 0, 0, 0],
-    // C: stamps around a next tick past 2^32
-    [0, 1000, 0, 0, 0, 0, 0, 4294970000],
-    [2, 2705, 10, 1, 0, 0, 0, 0],
-    [2, 2703, 10, 1, 0, 0, 0, 0],
-    [2, 2147486351, 10, 1, 0, 0, 0, 0],
-    [2, 2147486352, 10, 1, 0, 0, 0, 0],
-    [2, 2704, 10, 1, 0, 0, 0, 0],
-    // D: a period end inside a tick
-    [0, 3, 0, 0, 500, 0, 0, 0],
-    [1, 0, 1, 2, 0, 0, 0, 0],
-    // D: both ticks, then one
-    [5, 0, 0, 0, 0, 0, 0, 0],
-    [1, 2, 1, 1, 0, 0, 0, 0],
-    // one reference of 1 lacks tick 1
-    [0, 3, 0, 0, 500, 0, 0, 0],
-    [1, 0, 1, 1, 0, 0, 0, 0],
-    [5, 0, 0, 0, 0, 0, 0, 0],
-    [4, 333, 0, 0, 0, 0, 0, 0],
-    [4, 334, 0, 0, 0, 0, 0, 0],
-    // a depth and an end: the last, which hangs over the end, is spent once the window has passed it
-    [0, 1, 0, 0, 10000, 5000, 0, 0],
-    [1, 0, 20, 1, 0, 0, 0, 0],
-    [3, 14999, 0, 0, 0, 0, 0, 0],
-    [3, 15000, 0, 0, 0, 0, 0, 0],
-    // limits: refused openings
-    [0, 0, 0, 0, 0, 0, 0, 0],
-    [0, 1, 0, 0, 0, 0, 0, 4503599627370496],
-    [0, 10000001, 0, 0, 0, 0, 0, 0],
-    [0, 1, 0, 100000000001, 0, 0, 0, 0],
-    // the last tick
-    [0, 1, 0, 0, 0, 0, 4294967295, 4503599627370495],
-    // an end far past 2^64, a start of 2^64 - 1
-    [1, 4503599627370495, 4294967295, 4294967295, 0, 0, 0, 0],
-    [1, 18446744073709551615, 1, 1, 0, 0, 0, 0],
-    // a number over its limit
-    [0, 1, 0, 0, 0, 0, 4294967295, 0],
-    [1, 0, 1, 1, 0, 0, 0, 0],
-    // an end just past the limit, and at it
-    [0, 1, 0, 0, 0, 0, 0, 4503595332403201],
-    [1, 4503595332403201, 4294967295, 1, 0, 0, 0, 0],
-    [1, 4503595332403201, 4294967294, 1, 0, 0, 0, 0],
-    // room: a run, the same run longer, another, a third
-    [0, 1, 0, 0, 0, 0, 0, 0],
-    [1, 0, 7, 3, 0, 0, 0, 0],
-    [1, 21, 7, 1, 0, 0, 0, 0],
-    [1, 28, 8, 1, 0, 0, 0, 0],
-    [1, 36, 9, 1, 0, 0, 0, 0],
-    [1, 36, 8, 2, 0, 0, 0, 0],
-    // 2^31 references accepted, all spent at once, and one more
-    [0, 10000000, 0, 0, 0, 1, 0, 0],
-    [3, 100000000000, 0, 0, 0, 0, 0, 0],
-    [1, 0, 1, 2147483648, 0, 0, 0, 0],
-    [1, 2147483648, 1, 1, 0, 0, 0, 0],
-    // an offset past the references: places before the period start
-    [0, 1000, 5000, 2, 0, 0, 7, 0],
-    [1, 0, 1000, 4, 0, 0, 0, 0],
-    [6, 7, 0, 0, 0, 0, 0, 0],
-    [4, 5, 0, 0, 0, 0, 0, 0],
-    [1, 4000, 2000, 1, 0, 0, 0, 0],
-    [6, 11, 0, 0, 0, 0, 0, 0],
-    [6, 7, 0, 0, 0, 0, 0, 0],
-    [4, 3, 0, 0, 0, 0, 0, 0],
-];
+// The longest call, open, has seven numbers; place 0 is that of the name.
+pub(crate) const PLACES: usize = 8;
+
+// One digit more. A number that 64 bits do not hold, or a byte that is no digit, changes nothing.
+fn with_digit(number: u64, byte: u8) -> u64 {
+    if byte < b'0' {
+        return number;
+    }
+    if byte > b'9' {
+        return number;
+    }
+    let digit = (byte - b'0') as u64;
+    if number > (u64::MAX - digit) / 10 {
+        return number;
+    }
+    number * 10 + digit
+}
+
+// A blank begins the next number, and the last goes on.
+fn place_after(place: usize, byte: u8) -> usize
+    requires { ⌜ place < 8 ⌝ }
+    ensures { λ r. ⌜ r < 8 ⌝ }
+{
+    if byte != b' ' {
+        return place;
+    }
+    if place + 1 == PLACES {
+        return place;
+    }
+    place + 1
+}
+
+pub(crate) fn numbers(line: &[u8]) -> [u64; PLACES] {
+    let mut numbers = [0u64; PLACES];
+    let mut place = 0;
+    let mut i = 0;
+    while i < line.len() {
+        place = place_after(place, line[i]);
+        numbers[place] = with_digit(numbers[place], line[i]);
+        i += 1;
+    }
+    numbers
+}
+
+// Where the line that begins at a place ends: at its feed, or with the text.
+pub(crate) fn line_end(text: &[u8], from: usize) -> usize
+    requires { ⌜ from ≤ length (now text) ⌝ }
+    ensures { λ r. ⌜ (from ≤ r) × (r ≤ length (now (text .entry))) ⌝ }
+{
+    let mut i = from;
+    while i < text.len() {
+        if text[i] == b'\n' {
+            return i;
+        }
+        i += 1;
+    }
+    i
+}
+
+// Where the next line begins.
+pub(crate) fn past_feed(text: &[u8], end: usize) -> usize
+    requires { ⌜ end ≤ length (now text) ⌝ }
+    ensures { λ r. ⌜ r ≡ min (end + 1) (length (now (text .entry))) ⌝ }
+{
+    if end < text.len() {
+        return end + 1;
+    }
+    end
+}

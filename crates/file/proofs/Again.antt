@@ -21,8 +21,8 @@ use Rattle.runs.specs.Shape.{runsShaped}
 use Rattle.runs.specs.Joining.{lastEnd}
 use Rattle.runs.specs.Encoding.{encode, runsFor, tableOf, canonical}
 use Rattle.runs.proofs.Opening.{referencesIn, repeated-length}
-use Rattle.runs.proofs.Encoded.{leads, led, shaped-last, fresh, starts, Starts, encoded}
-use Rattle.runs.proofs.Joins.{references-append, references-of-run, references-join, references-end}
+use Rattle.runs.proofs.Encoded.{leads, shaped-front, shaped-last, Starts, encoded}
+use Rattle.runs.proofs.Joins.{join-back, references-append, references-of-run, references-join, references-end}
 use Rattle.runs.proofs.Tables.{table-runs, table-length}
 use Rattle.agreement.specs.declared.Record.{Record}
 use Rattle.agreement.specs.Agreement.{kept, every, countsHeld, agrees}
@@ -31,33 +31,13 @@ use Rattle.timeline.specs.Keeping.{unspent}
 use Rattle.timeline.specs.Appending.{given, allOf, leftOf, roomOutcome, fitOutcome, appendOutcome, appended}
 use Rattle.timeline.proofs.Unspent.{unspent-every}
 use Rattle.timeline.proofs.Judged.{stands-joins}
+use Rattle.timeline.proofs.Kept.{every-append}
 
--- ---- parts of joined references
+-- ---- parts of a list that passes a test
 
-join-behind : (t : ℕ) (xs ys : List Reference) → Joined t (xs ++ ys) → Joined (lastEnd t xs) ys
-unfolding lastEnd
-join-behind t [] ys j = j
-join-behind t (x ∷ xs) ys j = join-behind (endOf x) xs ys (j .1)
-
-every-front : (t : Reference → Bool) (xs ys : List Reference) → every t (xs ++ ys) ≡ true → every t xs ≡ true
-unfolding every
-every-front t [] ys e = refl
-every-front t (x ∷ xs) ys e =
-    let b = and-eq-true-iff (t x) (every t (xs ++ ys)) .0 e in ap₂ _&&_ (b .0) (every-front t xs ys (b .1))
-
-every-back : (t : Reference → Bool) (xs ys : List Reference) → every t (xs ++ ys) ≡ true → every t ys ≡ true
-unfolding every
-every-back t [] ys e = e
-every-back t (x ∷ xs) ys e = every-back t xs ys (and-eq-true-iff (t x) (every t (xs ++ ys)) .0 e .1)
-
-shaped-front : (xs ys : List Run) → runsShaped (xs ++ ys) ≡ true → runsShaped xs ≡ true
-unfolding runsShaped
-shaped-front [] ys s = refl
-shaped-front (r ∷ []) ys s =
-    let l = leads r ys s in led r [] (record { lasts = l .lasts; short = l .short; some = l .some; ends = l .ends; next = refl; rest = refl })
-shaped-front (r ∷ x ∷ xs) ys s =
-    let l = leads r (x ∷ xs ++ ys) s in
-    led r (x ∷ xs) (record { lasts = l .lasts; short = l .short; some = l .some; ends = l .ends; next = l .next; rest = shaped-front (x ∷ xs) ys (l .rest) })
+module _ (t : Reference → Bool) (xs ys : List Reference) (e : every t (xs ++ ys) ≡ true) where
+  every-parts : (every t xs ≡ true) × (every t ys ≡ true)
+  every-parts = and-eq-true-iff (every t xs) (every t ys) .0 (sym (every-append t xs ys) ∙ e)
 
 -- ---- an append that meets every condition is accepted
 
@@ -124,7 +104,7 @@ module _ (h : Head) (t words : ℕ) (xs : List Run) (x : Run) (ys : List Run) (k
   -- it starts where those before it end
   joins : x .start .0 ≡ lastEnd t (referencesOf xs)
   unfolding referencesOf repeated
-  joins = go (x .count) (leads x [] lead .some) (join-behind t (referencesOf xs) (referencesOf (x ∷ ys)) all-joined)
+  joins = go (x .count) (leads x [] lead .some) (join-back t (referencesOf xs) (referencesOf (x ∷ ys)) all-joined)
     where
       all-joined : Joined t (referencesOf xs ++ referencesOf (x ∷ ys))
       all-joined = subst (Joined t) (references-append xs (x ∷ ys)) (references-join t (xs ++ x ∷ ys) (k .shape) (k .start))
@@ -148,7 +128,8 @@ module _ (h : Head) (t words : ℕ) (xs : List Run) (x : Run) (ys : List Run) (k
   unfolding rec
   left-are =
       ap (unspent h 0) all-are ∙
-      unspent-every h 0 (referencesOf more) (every-front (λ r. not (passed h (endOf r) 0)) (referencesOf more) (referencesOf ys) (subst (λ rs. every (λ r. not (passed h (endOf r) 0)) rs ≡ true) whole (k .coming)))
+      unspent-every h 0 (referencesOf more)
+      (every-parts (λ r. not (passed h (endOf r) 0)) (referencesOf more) (referencesOf ys) (subst (λ rs. every (λ r. not (passed h (endOf r) 0)) rs ≡ true) whole (k .coming)) .0)
 
   runs-are : runsFor (leftOf rec ws (x .span .0) (x .count)) ≡ length more
   runs-are = ap runsFor left-are ∙ ap length (encoded more more-shaped)
@@ -182,9 +163,9 @@ module _ (h : Head) (t words : ℕ) (xs : List Run) (x : Run) (ys : List Run) (k
       (le-leb (length (referencesOf xs) + x .count) (2 ^ 31) (omega (arith, count-is, most, k .few)))
       (le-leb (h .first .0 + (length (referencesOf xs) + x .count)) largestNumber (omega (arith, count-is, most, k .numbers))))
       (ap (every (λ r. beforeEnd h (r .start .0))) given-are ∙
-      every-back (λ r. beforeEnd h (r .start .0)) (referencesOf xs) (referencesIn x)
-      (every-front (λ r. beforeEnd h (r .start .0)) (referencesOf xs ++ referencesIn x) (referencesOf ys)
-      (subst (λ rs. every (λ r. beforeEnd h (r .start .0)) rs ≡ true) (whole ∙ ap (λ rs. rs ++ referencesOf ys) more-are) (k .begun))))
+      every-parts (λ r. beforeEnd h (r .start .0)) (referencesOf xs) (referencesIn x)
+      (every-parts (λ r. beforeEnd h (r .start .0)) (referencesOf xs ++ referencesIn x) (referencesOf ys)
+      (subst (λ rs. every (λ r. beforeEnd h (r .start .0)) rs ≡ true) (whole ∙ ap (λ rs. rs ++ referencesOf ys) more-are) (k .begun)) .0) .1)
       (subst⁻¹ (λ (n : ℕ). n ≤ capacity ws) runs-are (subst⁻¹ (λ (n : ℕ). length more ≤ n / 3) words-long more-long))
 
   pub step-record : appended (recordOf h t xs) (tableOf words xs) (x .span .0) (x .count) ≡ recordOf h t (xs ++ x ∷ [])

@@ -27,7 +27,7 @@ use Rattle.timeline.specs.Opening.{freshRecord, openOutcome}
 use Rattle.timeline.specs.Appending.{appendOutcome}
 use Rattle.timeline.proofs.Kept.{open-agrees, accepted-keeps}
 use Rattle.frames.specs.declared.Frame.{Frame}
-use Rattle.frames.specs.declared.Frame.the-variants.{Head as HeadFrame, S, End}
+use Rattle.frames.specs.declared.Frame.the-variants.{Head as HeadFrame, End}
 use Rattle.frames.specs.declared.SFields.{SFields}
 use Rattle.frames.specs.Frames.{Fits, lineOf, endedLine}
 use Rattle.frames.proofs.Lines.{no-feed, frame-written-read}

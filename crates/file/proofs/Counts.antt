@@ -6,12 +6,11 @@ use native.Mathlib.Nat.{le-refl, mul-le-mul-right, mul-zero, add-mul, one-mul, a
 use native.Mathlib.Omega.{arith}
 use borrow.Author.Tests.{leb-true, leb-false, le-leb, lt-leb}
 use lib.Dec.{leb}
-use Rattle.units.proofs.Signed.{le-is, is-pos}
 use Rattle.window.specs.declared.Head.{Head}
-use Rattle.window.specs.Place.{place, periodEnd, beforeEnd, endKnown}
+use Rattle.window.specs.Place.{beforeEnd, endKnown}
 use Rattle.window.specs.Ticks.{reachesEnd, LeastCount}
-use Rattle.window.proofs.Division.{least-count}
-use Rattle.window.proofs.Unsigned.{endAt, place-is, starts-before}
+use Rattle.window.proofs.Division.{reaches-is, least-count}
+use Rattle.window.proofs.Unsigned.{endAt, starts-before}
 use Rattle.file.specs.Least.{leastFrom, enough, reaching, leastCount}
 
 -- a search finds the least number that passes, if that lies among those that it tries
@@ -30,16 +29,10 @@ found t (suc k) m n passes none low high =
     go false e false l on = on (leb-false n m l)
 
 module _ (h : Head) (s d : ℕ) (lasts : 1 ≤ d) where
-  reaches-is : (k : ℕ) → reachesEnd h k ≡ leb (endAt h + h .offset .0 * 1000) (k * 1000)
-  unfolding periodEnd
-  reaches-is k =
-      le-is (periodEnd h) (place h k) (endAt h) 0 (k * 1000) (h .offset .0 * 1000) (is-pos (endAt h)) (place-is h k) ∙
-      ap (leb (endAt h + h .offset .0 * 1000)) (add-zero (k * 1000))
-
   reached : reachesEnd h (s + d * enough h) ≡ true
   reached =
       let many : 1 * enough h ≤ d * enough h = mul-le-mul-right (enough h) lasts in
-      reaches-is (s + d * enough h) ∙
+      reaches-is h (s + d * enough h) ∙
       le-leb (enough h) ((s + d * enough h) * 1000)
       (omega (arith, many, one-mul (enough h), add-mul s (d * enough h) 1000))
 
@@ -58,7 +51,7 @@ module _ (h : Head) (s d : ℕ) (lasts : 1 ≤ d) where
       let short = starts-before h s before known in
       absurd
       (false≢true
-      (sym (reaches-is s ∙ lt-leb (endAt h + h .offset .0 * 1000) (s * 1000) (omega (arith, short))) ∙
+      (sym (reaches-is h s ∙ lt-leb (endAt h + h .offset .0 * 1000) (s * 1000) (omega (arith, short))) ∙
       ap (reachesEnd h) (sym (ap (λ (x : ℕ). s + x) (mul-zero d) ∙ add-zero s)) ∙ l .enough))
   least-some (suc n) known before l = omega arith
 

@@ -2,9 +2,9 @@
 use mathlib.Core.Path.{_≡_, refl, sym, ap, ap₂, _∙_}
 use mathlib.Core.Bool.{Bool, true, false, cond}
 use mathlib.Core.List.{List, [], _∷_, _++_, append-assoc, append-nil}
-use Prim.Native.Nat.{ℕ}
+use Prim.Native.Nat.{ℕ, zero, suc}
 use native.Mathlib.Omega.{arith}
-use borrow.Author.Tests.{ne-eqb, eqb-true, eqb-false, leb-true, leb-false}
+use borrow.Author.Tests.{eq-eqb, ne-eqb, eqb-true, eqb-false, leb-true, leb-false}
 use lib.Dec.{eqb, leb}
 use lib.ListN.{length, take, length-take}
 use lib.Seq.{take-all}
@@ -13,6 +13,29 @@ use Rattle.frames.proofs.Lines.{too-long}
 use Rattle.file.specs.Lines.{lineFeed, linesFrom, restFrom, linesOf, restOf}
 use Rattle.file.specs.Judging.{File, onFrame, takeLine, takeLines, begun, readLines}
 use Rattle.file.specs.Feeding.{longestHeld}
+
+-- ---- one byte
+
+module _ (b : List ℕ) (y : ℕ) (ys : List ℕ) where
+  module _ (e : y ≡ lineFeed) where
+    pub lines-ended : linesFrom b (y ∷ ys) ≡ b ∷ linesFrom [] ys
+    unfolding linesFrom
+    lines-ended = ap (λ t. cond t (b ∷ linesFrom [] ys) (linesFrom (b ++ y ∷ []) ys)) (eq-eqb y lineFeed e)
+
+    pub rest-ended : restFrom b (y ∷ ys) ≡ restFrom [] ys
+    unfolding restFrom
+    rest-ended = ap (λ t. cond t (restFrom [] ys) (restFrom (b ++ y ∷ []) ys)) (eq-eqb y lineFeed e)
+
+  module _ (n : y ≡ lineFeed → ⊥) where
+    pub lines-on : linesFrom b (y ∷ ys) ≡ linesFrom (b ++ y ∷ []) ys
+    unfolding linesFrom
+    lines-on = ap (λ t. cond t (b ∷ linesFrom [] ys) (linesFrom (b ++ y ∷ []) ys)) (ne-eqb y lineFeed n)
+
+    pub rest-on : restFrom b (y ∷ ys) ≡ restFrom (b ++ y ∷ []) ys
+    unfolding restFrom
+    rest-on = ap (λ t. cond t (restFrom [] ys) (restFrom (b ++ y ∷ []) ys)) (ne-eqb y lineFeed n)
+
+-- ---- pieces
 
 pub lines-append : (b xs ys : List ℕ) → linesFrom b (xs ++ ys) ≡ linesFrom b xs ++ linesFrom (restFrom b xs) ys
 unfolding linesFrom restFrom
@@ -85,50 +108,30 @@ pub line-next : (b l xs : List ℕ) → Unended l → linesFrom b (l ++ lineFeed
 unfolding linesFrom
 line-next b [] xs u = ap (λ y. y ∷ linesFrom [] xs) (sym (append-nil b))
 line-next b (y ∷ ys) xs u =
-    ap (λ t. cond t (b ∷ linesFrom [] (ys ++ lineFeed ∷ xs)) (linesFrom (b ++ y ∷ []) (ys ++ lineFeed ∷ xs))) (ne-eqb y lineFeed (u .0)) ∙
+    lines-on b y (ys ++ lineFeed ∷ xs) (u .0) ∙
     line-next (b ++ y ∷ []) ys xs (u .1) ∙
     ap (λ z. z ∷ linesFrom [] xs) (append-assoc b (y ∷ []) ys)
 
 pub rest-next : (b l xs : List ℕ) → Unended l → restFrom b (l ++ lineFeed ∷ xs) ≡ restFrom [] xs
 unfolding restFrom
 rest-next b [] xs u = refl
-rest-next b (y ∷ ys) xs u =
-    ap (λ t. cond t (restFrom [] (ys ++ lineFeed ∷ xs)) (restFrom (b ++ y ∷ []) (ys ++ lineFeed ∷ xs))) (ne-eqb y lineFeed (u .0)) ∙
-    rest-next (b ++ y ∷ []) ys xs (u .1)
+rest-next b (y ∷ ys) xs u = rest-on b y (ys ++ lineFeed ∷ xs) (u .0) ∙ rest-next (b ++ y ∷ []) ys xs (u .1)
 
--- ---- a byte more
+-- ---- lines taken one after another
 
 pub lines-taken : (x : File) (ls ks : List (List ℕ)) → takeLines x (ls ++ ks) ≡ takeLines (takeLines x ls) ks
 unfolding takeLines
 lines-taken x [] ks = refl
 lines-taken x (l ∷ ls) ks = lines-taken (takeLine x l) ls ks
 
-module _ (fed came : List ℕ) where
-  pub read-feed : readLines (fed ++ lineFeed ∷ []) came ≡ takeLine (readLines fed came) (restOf fed)
-  unfolding readLines linesFrom takeLines
-  read-feed =
-      ap (takeLines (begun came)) (lines-append [] fed (lineFeed ∷ [])) ∙ lines-taken (begun came) (linesOf fed) (restOf fed ∷ [])
+pub read-append : (fed piece came : List ℕ) → readLines (fed ++ piece) came ≡ takeLines (readLines fed came) (linesFrom (restOf fed) piece)
+unfolding readLines
+read-append fed piece came =
+    ap (takeLines (begun came)) (lines-append [] fed piece) ∙ lines-taken (begun came) (linesOf fed) (linesFrom (restOf fed) piece)
 
-  pub rest-feed : restOf (fed ++ lineFeed ∷ []) ≡ []
-  unfolding restFrom
-  rest-feed = rest-append [] fed (lineFeed ∷ [])
+-- ---- of a line the first bytes are enough, since one that is longer is no frame
 
-  module _ (b : ℕ) (n : b ≡ lineFeed → ⊥) where
-    pub read-byte : readLines (fed ++ b ∷ []) came ≡ readLines fed came
-    unfolding readLines linesFrom
-    read-byte =
-        ap (takeLines (begun came))
-        (lines-append [] fed (b ∷ []) ∙
-        ap (λ t. linesOf fed ++ cond t (restOf fed ∷ []) []) (ne-eqb b lineFeed n) ∙
-        append-nil (linesOf fed))
-
-    pub rest-byte : restOf (fed ++ b ∷ []) ≡ restOf fed ++ b ∷ []
-    unfolding restFrom
-    rest-byte = rest-append [] fed (b ∷ []) ∙ ap (λ t. cond t [] (restOf fed ++ b ∷ [])) (ne-eqb b lineFeed n)
-
--- ---- of a line that is too long the first bytes are enough
-
-pub held-frame : (line : List ℕ) → frameOf (take longestHeld line) ≡ frameOf line
+held-frame : (line : List ℕ) → frameOf (take longestHeld line) ≡ frameOf line
 held-frame line = go (leb (length line) longestHeld) refl
   where
     go : (t : Bool) → leb (length line) longestHeld ≡ t → frameOf (take longestHeld line) ≡ frameOf line
@@ -137,6 +140,34 @@ held-frame line = go (leb (length line) longestHeld) refl
         let long = leb-false (length line) longestHeld e in
         too-long (take longestHeld line) (omega (arith, length-take longestHeld line)) ∙ sym (too-long line (omega arith))
 
-pub held-line : (x : File) (line : List ℕ) → takeLine x (take longestHeld line) ≡ takeLine x line
+held-line : (x : File) (line : List ℕ) → takeLine x (take longestHeld line) ≡ takeLine x line
 unfolding takeLine
 held-line x line = ap (onFrame (x .reading .stage) (x .reading) (x .words)) (held-frame line)
+
+first-more : (n : ℕ) (b ys : List ℕ) → take n (take n b ++ ys) ≡ take n (b ++ ys)
+first-more zero b ys = refl
+first-more (suc n) [] ys = refl
+first-more (suc n) (x ∷ b) ys = ap (λ l. x ∷ l) (first-more n b ys)
+
+same-more : (b c ys : List ℕ) → take longestHeld b ≡ take longestHeld c → take longestHeld (b ++ ys) ≡ take longestHeld (c ++ ys)
+same-more b c ys e = sym (first-more longestHeld b ys) ∙ ap (λ l. take longestHeld (l ++ ys)) e ∙ first-more longestHeld c ys
+
+pub same-lines : (x : File) (b c bytes : List ℕ) → take longestHeld b ≡ take longestHeld c → takeLines x (linesFrom b bytes) ≡ takeLines x (linesFrom c bytes)
+unfolding takeLines linesFrom
+same-lines x b c [] e = refl
+same-lines x b c (y ∷ ys) e = go (eqb y lineFeed) (same-lines x (b ++ y ∷ []) (c ++ y ∷ []) ys (same-more b c (y ∷ []) e))
+  where
+    go : (t : Bool) → takeLines x (linesFrom (b ++ y ∷ []) ys) ≡ takeLines x (linesFrom (c ++ y ∷ []) ys) →
+        takeLines x (cond t (b ∷ linesFrom [] ys) (linesFrom (b ++ y ∷ []) ys)) ≡ takeLines x (cond t (c ∷ linesFrom [] ys) (linesFrom (c ++ y ∷ []) ys))
+    go true f = ap (λ z. takeLines z (linesFrom [] ys)) (sym (held-line x b) ∙ ap (takeLine x) e ∙ held-line x c)
+    go false f = f
+
+pub same-rest : (b c bytes : List ℕ) → take longestHeld b ≡ take longestHeld c → take longestHeld (restFrom b bytes) ≡ take longestHeld (restFrom c bytes)
+unfolding restFrom
+same-rest b c [] e = e
+same-rest b c (y ∷ ys) e = go (eqb y lineFeed) (same-rest (b ++ y ∷ []) (c ++ y ∷ []) ys (same-more b c (y ∷ []) e))
+  where
+    go : (t : Bool) → take longestHeld (restFrom (b ++ y ∷ []) ys) ≡ take longestHeld (restFrom (c ++ y ∷ []) ys) →
+        take longestHeld (cond t (restFrom [] ys) (restFrom (b ++ y ∷ []) ys)) ≡ take longestHeld (cond t (restFrom [] ys) (restFrom (c ++ y ∷ []) ys))
+    go true f = refl
+    go false f = f

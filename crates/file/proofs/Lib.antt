@@ -4,7 +4,11 @@ pub mod Steps
 pub mod Places
 pub mod Cutting
 pub mod Sounding
+pub mod Holding
+pub mod Turning
+pub mod Stopping
 pub mod Pieces
+pub mod Never
 pub mod Output
 pub mod Whole
 pub mod Again

@@ -21,7 +21,7 @@ use Rattle.runs.proofs.Encoded.{Leads, leads, shaped-drop}
 use Rattle.runs.proofs.Tables.{runs-shaped}
 use Rattle.runs.proofs.Walking.{place-there}
 use Rattle.frames.specs.declared.Frame.{Frame}
-use Rattle.frames.specs.declared.Frame.the-variants.{S, Bad}
+use Rattle.frames.specs.declared.Frame.the-variants.{Bad}
 use Rattle.frames.specs.Frames.{Fits, lineLength, kindOf, endedLine, Written as WrittenLine}
 use Rattle.file.specs.Judging.{absent}
 use Rattle.file.specs.Writing.{sFrame, laterFrames, sFrames, bytesOf}

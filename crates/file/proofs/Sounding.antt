@@ -1,15 +1,15 @@
 -- What holds of a reading at its stage still holds after the next line: record and table agree from the first S line on.
-use mathlib.Core.Path.{_≡_, refl, sym, subst, subst⁻¹, _∙_}
-use mathlib.Core.Bool.{Bool, true, false, cond}
+use mathlib.Core.Path.{_≡_, refl, ap₂, subst⁻¹, _∙_}
+use mathlib.Core.Bool.{Bool, true, false, cond, _&&_, and-eq-true-iff}
 use mathlib.Core.List.{List, [], _∷_}
-use Prim.Native.Nat.{ℕ, _+_, _-_, _*_, _/_, _^_, _≤_}
-use native.Mathlib.Nat.{le-refl, suc-ne-zero}
+use Prim.Native.Nat.{ℕ, _+_, _≤_}
 use native.Mathlib.Omega.{arith}
-use borrow.Author.Tests.{eqb-false}
-use lib.Dec.{eqb, ltb}
+use borrow.Author.Tests.{eqb-true, eqb-false, eq-eqb, leb-true, le-leb}
+use lib.Dec.{eqb, leb, ltb}
 use lib.ListN.{length, replicate, length-replicate}
 use Rattle.units.specs.declared.standing.Standing.{Standing}
 use Rattle.units.specs.declared.standing.Standing.the-variants.{Joins, Gap, Overlap}
+use Rattle.units.specs.Exactly.{Exactly}
 use Rattle.units.specs.Limits.{largestSpan}
 use Rattle.window.specs.declared.Head.{Head}
 use Rattle.window.specs.Limits.{headHeld}
@@ -27,7 +27,7 @@ use Rattle.timeline.specs.Keeping.{wordsBy}
 use Rattle.timeline.specs.Opening.{freshRecord, openOutcome}
 use Rattle.timeline.specs.Appending.{leftOf, joining, fitOutcome, appendOutcome, appended}
 use Rattle.timeline.proofs.Judged.{stands-joins}
-use Rattle.timeline.proofs.Kept.{open-agrees, taken, accepted-keeps}
+use Rattle.timeline.proofs.Kept.{open-agrees, refused-not, taken, accepted-keeps}
 use Rattle.frames.specs.declared.Frame.{Frame}
 use Rattle.frames.specs.declared.Frame.the-variants.{Head as HeadFrame, S, End, Clock, Bad}
 use Rattle.frames.specs.declared.SFields.{SFields}
@@ -38,7 +38,8 @@ use Rattle.file.specs.declared.Reading.{Reading}
 use Rattle.file.specs.Judging.{File, settledReading, refused, taken as takes, firstTick, laterStanding, firstNegative, reachOutcome, reachesBy, appendedBy, takeS, openedBy, takeFirstS, takeHead, sLines, takeEnd, onNothing, onHeaded, onOpen, onFilled, onFrame, takeLine, takeLines, begun, readLines}
 use Rattle.file.specs.Lines.{linesOf}
 use Rattle.file.specs.Least.{leastCount}
-use Rattle.file.specs.Sound.{Running, Begins, Narrow, Sound}
+use Rattle.file.specs.Feeding.{mostLines, linesHeld, stageHeld}
+use Rattle.file.specs.Sound.{Running, Begins, Counted, Narrow, Sound}
 use Rattle.file.proofs.Counts.{least-some, least-holds}
 use Rattle.file.proofs.Places.{narrow, running-lines}
 
@@ -46,10 +47,47 @@ use Rattle.file.proofs.Places.{narrow, running-lines}
 abbrev pub SoundFile : ℕ → File → Type 0
 SoundFile words x = Sound (x .reading .stage) (x .reading) (x .words) × (length (x .words) ≡ words)
 
--- ---- the outcome of a negative r that is accepted
+-- ---- the test at a stage says just what holds there
 
-pub not-accepted : {A : Type 0} (why : Refusal) → outcome.Refused why ≡ outcome.Accepted → A
-not-accepted why e = let z : _≡_ {A = ℕ} 0 1 = cc in absurd (suc-ne-zero 0 (sym z))
+module _ (r : Reading) (ws : List ℕ) where
+  running-is : Exactly (linesHeld r ws) (Running r ws)
+  running-is =
+      record {
+        only = λ t.
+            let a = and-eq-true-iff (agrees (r .rec) ws && leb 1 (r .lines)) (leb (sLines r) (r .rec .accepted)) .0 t in
+            let b = and-eq-true-iff (agrees (r .rec) ws) (leb 1 (r .lines)) .0 (a .0) in
+            let most = leb-true (sLines r) (r .rec .accepted) (a .1) in
+            record { agreed = b .0; some = leb-true 1 (r .lines) (b .1); few = omega arith };
+        if = λ h.
+            ap₂ _&&_ (ap₂ _&&_ (h .agreed) (le-leb 1 (r .lines) (h .some)))
+            (le-leb (sLines r) (r .rec .accepted) (omega (arith, h .some, h .few)));
+      }
+
+  few-is : Exactly (leb (r .lines) mostLines) (Counted r)
+  few-is = record { only = λ t. record { few = leb-true (r .lines) mostLines t }; if = λ h. le-leb (r .lines) mostLines (h .few) }
+
+  pub stage-is : (s : Stage) → Exactly (stageHeld s r ws) (Sound s r ws)
+  unfolding stageHeld Sound
+  stage-is Nothing = record { only = eqb-true (r .lines) 0; if = eq-eqb (r .lines) 0 }
+  stage-is Headed =
+      record {
+        only = λ t.
+            let a = and-eq-true-iff (headHeld (r .rec .head)) (eqb (r .lines) 1) .0 t in
+            record { held = a .0; one = eqb-true (r .lines) 1 (a .1) };
+        if = λ h. ap₂ _&&_ (h .held) (eq-eqb (r .lines) 1 (h .one));
+      }
+  stage-is Open = running-is
+  stage-is Filled = running-is
+  stage-is Ended =
+      record {
+        only = λ t.
+            let a = and-eq-true-iff (agrees (r .rec) ws) (leb (r .lines) mostLines) .0 t in
+            record { agreed = a .0; few = leb-true (r .lines) mostLines (a .1) };
+        if = λ h. ap₂ _&&_ (h .agreed) (le-leb (r .lines) mostLines (h .few));
+      }
+  stage-is (Refused why) = few-is
+
+-- ---- the outcome of a negative r that is accepted
 
 -- it is the outcome of an append of the least count
 reach-accepted : (rec : Record) (ws : List ℕ) (st : Standing) (d n : ℕ) → agrees rec ws ≡ true → (n ≡ leastCount (rec .head) (rec .next .0) d) →
@@ -69,21 +107,21 @@ reach-accepted rec ws st d n a l o = go (eqb d 0) refl st refl (endKnown (rec .h
         (joining k (cond u (cond v (fitOutcome rec ws d n) (outcome.Refused refusal.PastEnd)) (outcome.Refused refusal.NoEndToReach))) ≡
         outcome.Accepted →
         appendOutcome rec ws st d n ≡ outcome.Accepted
-    go true e k j u p v q o = not-accepted refusal.NothingGiven o
-    go false e Gap j u p v q o = not-accepted refusal.Gap o
-    go false e Overlap j u p v q o = not-accepted refusal.Overlap o
-    go false e Joins j false p v q o = not-accepted refusal.NoEndToReach o
-    go false e Joins j true p false q o = not-accepted refusal.PastEnd o
+    go true e k j u p v q o = absurd (refused-not refusal.NothingGiven o)
+    go false e Gap j u p v q o = absurd (refused-not refusal.Gap o)
+    go false e Overlap j u p v q o = absurd (refused-not refusal.Overlap o)
+    go false e Joins j false p v q o = absurd (refused-not refusal.NoEndToReach o)
+    go false e Joins j true p false q o = absurd (refused-not refusal.PastEnd o)
     go false e Joins j true p true q o = stands-joins rec ws st d n a (eqb-false d 0 e) (some p q (eqb-false d 0 e)) j ∙ o
 
 -- ---- one line
 
 module _ (words : ℕ) (r : Reading) (ws : List ℕ) (long : length ws ≡ words) where
-  refused-sound : (why : Refusal) → r .lines ≤ 2 ^ 31 + 2 → SoundFile words (refused why r ws)
+  refused-sound : (why : Refusal) → r .lines ≤ mostLines → SoundFile words (refused why r ws)
   unfolding Sound
   refused-sound why f = (record { few = f }, long)
 
-  running-few : Running r ws → r .lines ≤ 2 ^ 31 + 2
+  running-few : Running r ws → r .lines ≤ mostLines
   running-few h = omega (arith, running-lines r ws h .1)
 
   appended-running : (d n : ℕ) (st : Standing) (s : Stage) → Running r ws → d ≤ largestSpan → appendOutcome (r .rec) ws st d n ≡ outcome.Accepted →
@@ -145,7 +183,7 @@ module _ (words : ℕ) (r : Reading) (ws : List ℕ) (long : length ws ≡ words
           small
       go (outcome.Refused why) e = refused-sound words r ws long why (omega (arith, b .one))
 
-  few : (st : Stage) → Sound st r ws → r .lines ≤ 2 ^ 31 + 2
+  few : (st : Stage) → Sound st r ws → r .lines ≤ mostLines
   unfolding Sound
   few Nothing k = omega arith
   few Headed k = omega (arith, k .one)
@@ -179,7 +217,7 @@ module _ (words : ℕ) (r : Reading) (ws : List ℕ) (long : length ws ≡ words
   frame-sound Ended f k e n = refused-sound words r ws long refusal.BadLine (k .few)
   frame-sound (Refused why) f k e n = (subst⁻¹ (λ y. Sound y r ws) e k, long)
 
-pub sound-few : (words : ℕ) (x : File) → SoundFile words x → x .reading .lines ≤ 2 ^ 31 + 2
+pub sound-few : (words : ℕ) (x : File) → SoundFile words x → x .reading .lines ≤ mostLines
 sound-few words x h = few words (x .reading) (x .words) (h .1) (x .reading .stage) (h .0)
 
 pub line-sound : (words : ℕ) (x : File) (line : List ℕ) → SoundFile words x → SoundFile words (takeLine x line)

@@ -3,7 +3,7 @@
 use mathlib.Core.Path.{_≡_, refl, sym, ap, ap₂, subst, subst⁻¹, _∙_}
 use mathlib.Core.Bool.{Bool, true, false, not, _&&_, and-eq-true-iff, true≢false}
 use mathlib.Core.List.{List, [], _∷_, _++_}
-use Prim.Native.Nat.{ℕ, zero, suc, _+_, _-_, _/_, _^_, _≤_}
+use Prim.Native.Nat.{ℕ, zero, suc, _+_, _/_, _^_, _≤_}
 use native.Mathlib.Omega.{arith}
 use borrow.Author.Tests.{not-true}
 use lib.ListN.{length, length-append}
@@ -27,6 +27,7 @@ use Rattle.agreement.specs.Agreement.{kept, every, agrees}
 use Rattle.agreement.proofs.Agreeing.{Agreeing, agreeing}
 use Rattle.timeline.specs.declared.Outcome.the-variants as outcome
 use Rattle.timeline.specs.Keeping.{wordsBy}
+use Rattle.timeline.proofs.Kept.{refused-not}
 use Rattle.frames.specs.declared.Frame.{Frame}
 use Rattle.frames.specs.declared.Frame.the-variants.{Head as HeadFrame, End}
 use Rattle.frames.specs.Frames.{Fits}
@@ -40,7 +41,7 @@ use Rattle.file.proofs.Output.{s-fits}
 use Rattle.file.proofs.Whole.{kept-few, head-fits, end-fits}
 use Rattle.file.proofs.Again.{recordOf, Takeable}
 use Rattle.file.proofs.Back.{AllFit, lines-of-frames, rest-of-frames, frames-taken}
-use Rattle.file.proofs.Sounding.{not-accepted, read-sound}
+use Rattle.file.proofs.Sounding.{read-sound}
 
 -- ---- the number of the first changes no rule of time
 
@@ -227,12 +228,12 @@ same-file rec other ws vs h k = ap₂ fileOf h k
 -- ---- an accepted reading agrees
 
 ended : (s : Stage) (n : ℕ) → stopOutcome s n ≡ outcome.Accepted → s ≡ Ended
-ended Nothing n e = not-accepted BadLine e
-ended Headed n e = not-accepted BadLine e
-ended Open n e = not-accepted BadLine e
-ended Filled n e = not-accepted BadLine e
+ended Nothing n e = absurd (refused-not BadLine e)
+ended Headed n e = absurd (refused-not BadLine e)
+ended Open n e = absurd (refused-not BadLine e)
+ended Filled n e = absurd (refused-not BadLine e)
 ended Ended n e = refl
-ended (Refused why) n e = not-accepted why e
+ended (Refused why) n e = absurd (refused-not why e)
 
 module _ (bytes came : List ℕ) (o : readOutcome bytes came ≡ outcome.Accepted) where
   at-end : readLines bytes came .reading .stage ≡ Ended

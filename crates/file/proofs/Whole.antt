@@ -1,5 +1,5 @@
 -- The whole file that is written: how long it is, its lines one behind the other in the output, and the refusals in their order.
-use mathlib.Core.Path.{_≡_, refl, sym, ap, ap₂, subst, subst⁻¹, _∙_}
+use mathlib.Core.Path.{_≡_, refl, sym, ap, ap₂, subst⁻¹, _∙_}
 use mathlib.Core.Bool.{Bool, true, false, cond, not}
 use mathlib.Core.List.{List, [], _∷_, _++_, append-assoc, append-nil}
 use Prim.Native.Nat.{ℕ, _+_, _-_, _*_, _^_, _≤_, _<_}
@@ -22,7 +22,7 @@ use Rattle.agreement.specs.declared.Record.{Record}
 use Rattle.agreement.specs.declared.refusal.Refusal.the-variants.{Disagreement, NothingKept, ShortOutput}
 use Rattle.agreement.specs.Agreement.{kept, agrees}
 use Rattle.agreement.proofs.Agreeing.{Agreeing, agreeing}
-use Rattle.frames.specs.declared.Frame.the-variants.{Head as HeadFrame, S, End}
+use Rattle.frames.specs.declared.Frame.the-variants.{Head as HeadFrame, End}
 use Rattle.frames.specs.Frames.{Fits, lineWidths, lineLength, kindOf, lineOf, endedLine, Written as WrittenLine}
 use Rattle.frames.proofs.Lines.{length-ended}
 use Rattle.frames.proofs.Rows.{length-fields}

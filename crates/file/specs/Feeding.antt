@@ -1,25 +1,111 @@
--- A reader that is fed a file piece by piece stands, after any pieces, where reading all of their bytes comes to. Of a line that is not ended it
--- holds as much as a frame can have, and a byte more. Paper: The file (the program holds one line at a time and takes a file of any length).
-use mathlib.Core.Path.{_≡_}
-use mathlib.Core.List.{List}
-use Prim.Native.Nat.{ℕ, _+_, _≤_}
-use lib.ListN.{take}
+-- A file is read piece by piece, with its table lent at each call. After any pieces reader and table stand where reading all of their bytes comes to.
+-- Of a line that is not ended the reader holds the first bytes, as many as a frame can have and one more, and zeros behind them. A reader and a table
+-- that do not belong together are refused with 2: a feed changes neither, and the end answers 2 at line 0 and changes no word. Paper: The file (the
+-- program holds one line at a time and takes a file of any length); Record and table; Refusal numbers, 2.
+use Prim.Native.Nat.{ℕ, _+_, _-_, _^_, min}
+use mathlib.Core.Bool.{Bool, cond, _&&_}
+use mathlib.Core.List.{List, [], _∷_, _++_}
+use lib.Dec.{eqb, leb}
+use lib.ListN.{length, take, drop, replicate}
+use Rattle.window.specs.Limits.{headHeld}
+use Rattle.runs.specs.Shape.{zeros}
+use Rattle.agreement.specs.declared.refusal.Refusal.the-variants.{Disagreement}
+use Rattle.agreement.specs.Agreement.{agrees}
+use Rattle.timeline.specs.declared.Outcome.{Outcome}
+use Rattle.timeline.specs.declared.Outcome.the-variants as outcome
+use Rattle.timeline.specs.Keeping.{wordsBy}
+use Rattle.timeline.specs.Opening.{zeroRecord}
 use Rattle.frames.specs.Frames.{longestLine}
+use Rattle.file.specs.declared.Stage.{Stage}
+use Rattle.file.specs.declared.Stage.the-variants.{Nothing, Headed, Open, Filled, Ended, Refused}
+use Rattle.file.specs.declared.Reading.{Reading}
 use Rattle.file.specs.declared.Reader.{Reader}
-use Rattle.file.specs.Lines.{restOf}
-use Rattle.file.specs.Judging.{readLines}
+use Rattle.file.specs.declared.ReadAnswer.{ReadAnswer}
+use Rattle.file.specs.Lines.{linesFrom, restFrom, restOf}
+use Rattle.file.specs.Judging.{File, sLines, takeLines, readLines, stopOutcome, answeredBy, zeroed}
+
+-- ---- what a reader holds
 
 abbrev pub longestHeld : ℕ
 longestHeld = longestLine + 1
 
--- reader and table stand where the bytes `fed` bring them, from a table that came with the words `came`
-pub record Fed (came fed : List ℕ) (x : Reader) (ws : List ℕ) : Type 0 where
-  pub held : x .held ≤ longestHeld
-  pub line : take (x .held) (x .line) ≡ take longestHeld (restOf fed)
-  pub file : record { reading = x .reading; words = ws } ≡ readLines fed came
+-- the bytes that it holds of the line that is not ended
+abbrev pub heldPart : Reader → List ℕ
+heldPart x = take (x .held) (x .line)
 
--- there are such bytes
-pub record Feeding (x : Reader) (ws : List ℕ) : Type 0 where
-  pub came : List ℕ
-  pub fed : List ℕ
-  pub so : Fed came fed x ws
+-- the reader that has come to a reading and has the bytes `rest` behind the last feed
+unfoldable pub holding : Reading → List ℕ → Reader
+holding r rest =
+    record { reading = r; line = take longestHeld rest ++ replicate (longestHeld - length rest) 0; held = min longestHeld (length rest) }
+
+-- ---- which reader and table belong together
+
+-- a head, an S line for each of at most 2^31 references, and an end
+abbrev pub mostLines : ℕ
+mostLines = 2 ^ 31 + 2
+
+-- record and table agree, the head is taken, and each S line gave a reference at least
+abbrev pub linesHeld : Reading → List ℕ → Bool
+linesHeld r ws = agrees (r .rec) ws && leb 1 (r .lines) && leb (sLines r) (r .rec .accepted)
+
+-- what is asked at a stage. Before the first S line: no line, or a head within its limits as the only one. From then on record and table agree. Once
+-- a line is refused, record and table do not matter any more
+unfoldable pub stageHeld : Stage → Reading → List ℕ → Bool
+stageHeld Nothing r ws = eqb (r .lines) 0
+stageHeld Headed r ws = headHeld (r .rec .head) && eqb (r .lines) 1
+stageHeld Open r ws = linesHeld r ws
+stageHeld Filled r ws = linesHeld r ws
+stageHeld Ended r ws = agrees (r .rec) ws && leb (r .lines) mostLines
+stageHeld (Refused why) r ws = leb (r .lines) mostLines
+
+-- no more bytes are held than there is room for, those behind them are 0, and what the stage asks holds
+unfoldable pub belongs : Reader → List ℕ → Bool
+belongs x ws = leb (x .held) longestHeld && zeros (drop (x .held) (x .line)) && stageHeld (x .reading .stage) (x .reading) ws
+
+-- ---- what the calls answer
+
+unfoldable pub begunReader : Reader
+begunReader = holding (record { stage = Nothing; lines = 0; rec = zeroRecord }) []
+
+-- the lines that a piece ends are judged in order, the first of them with the bytes held before it
+abbrev pub fedFile : Reader → List ℕ → List ℕ → File
+fedFile x ws piece = takeLines (record { reading = x .reading; words = ws }) (linesFrom (heldPart x) piece)
+
+unfoldable pub fedReader : Reader → List ℕ → List ℕ → Reader
+fedReader x ws piece = cond (belongs x ws) (holding (fedFile x ws piece .reading) (restFrom (heldPart x) piece)) x
+
+unfoldable pub fedTable : Reader → List ℕ → List ℕ → List ℕ
+fedTable x ws piece = cond (belongs x ws) (fedFile x ws piece .words) ws
+
+-- a file that stops here
+abbrev pub finishOutcome : Reader → Outcome
+finishOutcome x = stopOutcome (x .reading .stage) (x .held)
+
+unfoldable pub finishAnswer : Reader → List ℕ → ReadAnswer
+finishAnswer x ws =
+    cond (belongs x ws) (answeredBy (finishOutcome x) (x .reading)) (record { outcome = outcome.Refused Disagreement; rec = zeroRecord; line = 0 })
+
+unfoldable pub finishTable : Reader → List ℕ → List ℕ
+finishTable x ws = cond (belongs x ws) (wordsBy (finishOutcome x) ws (zeroed ws)) ws
+
+-- ---- where reader and table stand after the bytes `fed`, in a table that came with the words `came`
+
+unfoldable pub readerAfter : List ℕ → List ℕ → Reader
+readerAfter fed came = holding (readLines fed came .reading) (restOf fed)
+
+unfoldable pub tableAfter : List ℕ → List ℕ → List ℕ
+tableAfter fed came = readLines fed came .words
+
+-- ---- a feed for each of some pieces, one after the other
+
+pub record Fed : Type 0 where
+  pub reader : Reader
+  pub words : List ℕ
+
+unfoldable pub fedOn : Fed → List (List ℕ) → Fed
+fedOn f [] = f
+fedOn f (piece ∷ pieces) = fedOn (record { reader = fedReader (f .reader) (f .words) piece; words = fedTable (f .reader) (f .words) piece }) pieces
+
+-- from the beginning
+abbrev pub fedPieces : List ℕ → List (List ℕ) → Fed
+fedPieces came pieces = fedOn (record { reader = begunReader; words = came }) pieces

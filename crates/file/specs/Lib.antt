@@ -1,7 +1,7 @@
 pub mod Lines
 pub mod Least
 pub mod Judging
-pub mod Sound
 pub mod Feeding
+pub mod Sound
 pub mod Writing
 pub mod Worked

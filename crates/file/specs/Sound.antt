@@ -1,5 +1,6 @@
--- What holds of a reading at each stage: the steps of the reader ask it of one another, and no statement about a whole file rests on it.
-use Prim.Native.Nat.{ℕ, _+_, _^_, _≤_}
+-- What is asked of a reading at each stage, as named facts: the steps of the reader ask them of one another. The test `stageHeld` (Feeding) says the
+-- same, by the law `stage-is` (proofs/Sounding.antt), and the public statements cite that one.
+use Prim.Native.Nat.{ℕ, _+_, _≤_}
 use mathlib.Core.Path.{_≡_}
 use mathlib.Core.Bool.{true}
 use mathlib.Core.List.{List}
@@ -11,6 +12,7 @@ use Rattle.frames.specs.declared.Frame.the-variants.{Head, S, End, Clock, Bad}
 use Rattle.file.specs.declared.Stage.{Stage}
 use Rattle.file.specs.declared.Stage.the-variants.{Nothing, Headed, Open, Filled, Ended, Refused}
 use Rattle.file.specs.declared.Reading.{Reading}
+use Rattle.file.specs.Feeding.{mostLines}
 
 -- record and table agree, and there are no more S lines than references
 pub record Running (r : Reading) (ws : List ℕ) : Type 0 where
@@ -24,11 +26,10 @@ pub record Begins (r : Reading) : Type 0 where
 
 pub record Closed (r : Reading) (ws : List ℕ) : Type 0 where
   pub agreed : agrees (r .rec) ws ≡ true
-  pub few : r .lines ≤ 2 ^ 31 + 2
+  pub few : r .lines ≤ mostLines
 
--- 2^31 references at most are accepted, so the lines taken are at most two more
 pub record Counted (r : Reading) : Type 0 where
-  pub few : r .lines ≤ 2 ^ 31 + 2
+  pub few : r .lines ≤ mostLines
 
 -- a duration of 32 bits, as every S line has
 abbrev pub Narrow : Frame → Type 0

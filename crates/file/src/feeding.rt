@@ -1,10 +1,12 @@
 // Reading a file: byte by byte up to a feed, then the line is judged. A whole file is one piece.
 ghost use mathlib.Core.Path.{_≡_};
-ghost use mathlib.Core.List.{List, [], _++_};
-ghost use Prim.Native.Nat.{ℕ, _+_};
+ghost use Prim.Native.Nat.{_≤_};
+ghost use lib.ListN.{drop};
+ghost use Rattle.runs.specs.Shape.{zeros};
+ghost use Rattle.timeline.specs.Keeping.{wordsBy};
 ghost use Rattle.timeline.specs.Opening.{zeroRecord};
-ghost use Rattle.file.specs.Judging.{stopOutcome, readAnswer, readTable};
-ghost use Rattle.file.specs.Feeding.{Fed, Feeding};
+ghost use Rattle.file.specs.Judging.{stopOutcome, answeredBy, zeroed, readAnswer, readTable};
+ghost use Rattle.file.specs.Feeding.{mostLines, linesHeld, stageHeld, belongs, begunReader, fedReader, fedTable, finishAnswer, finishTable};
 use crate::ReadAnswer;
 use crate::Reader;
 use crate::Reading;
@@ -16,9 +18,12 @@ use timeline::Outcome;
 // The longest frame has 82 digits.
 const LONGEST_HELD: usize = 83;
 
+// A head, an S line for each of at most 2^31 references, and an end.
+const MOST_LINES: u64 = 2_147_483_650;
+
 // A reader that has been fed nothing.
 pub fn begin() -> Reader
-    ensures { λ r. ⌜ ((came : List ℕ) → Fed came [] r came) ⌝ }
+    ensures { λ r. ⌜ r ≡ begunReader ⌝ }
 {
     let rec = timeline::zero_record();
     let reading = Reading {
@@ -33,11 +38,71 @@ pub fn begin() -> Reader
     }
 }
 
-// Inner: callers show that reader and table stand where some bytes brought them. Feeds one piece more.
-pub fn feed(reader: Reader, table: &mut [u64], piece: &[u8]) -> Reader
-    requires { ⌜ Feeding reader (now table) ⌝ }
-    ensures { λ r. ⌜ ((came fed : List ℕ) → Fed came fed reader (now (table .entry)) → Fed came (fed ++ now (piece .entry)) r (now (table .exit))) ⌝ }
+// Whether all bytes of a line from a place on are 0.
+fn zeros_from(line: &[u8], from: usize) -> bool
+    ensures { λ r. ⌜ r ≡ zeros (drop from (now (line .entry))) ⌝ }
 {
+    let mut i = from;
+    while i < line.len() {
+        if line[i] != 0 {
+            return false;
+        }
+        i += 1;
+    }
+    true
+}
+
+// Whether record and table agree, the head is taken, and each S line gave a reference at least.
+fn lines_held(reading: Reading, table: &[u64]) -> bool
+    ensures { λ r. ⌜ r ≡ linesHeld reading (now (table .entry)) ⌝ }
+{
+    if !reading.rec.agrees(table) {
+        return false;
+    }
+    if reading.lines == 0 {
+        return false;
+    }
+    reading.lines - 1 <= reading.rec.accepted
+}
+
+// Whether what the stage asks holds.
+fn stage_held(reading: Reading, table: &[u64]) -> bool
+    ensures { λ r. ⌜ r ≡ stageHeld (reading .stage) reading (now (table .entry)) ⌝ }
+{
+    let stage = reading.stage;
+    match stage {
+        Stage::Nothing => reading.lines == 0,
+        Stage::Headed => reading.rec.head.held() & (reading.lines == 1),
+        Stage::Open => lines_held(reading, table),
+        Stage::Filled => lines_held(reading, table),
+        Stage::Ended => reading.rec.agrees(table) & (reading.lines <= MOST_LINES),
+        Stage::Refused(_) => reading.lines <= MOST_LINES,
+    }
+}
+
+// Whether reader and table belong together.
+fn belongs(reader: Reader, table: &[u64]) -> bool
+    ensures { λ r. ⌜ r ≡ belongs reader (now (table .entry)) ⌝ }
+{
+    let held = reader.held;
+    let line = reader.line;
+    if LONGEST_HELD < held {
+        return false;
+    }
+    if !zeros_from(&line, held) {
+        return false;
+    }
+    stage_held(reader.reading, table)
+}
+
+// Feeds one piece more. A reader that does not belong to the table comes back as it came.
+pub fn feed(reader: Reader, table: &mut [u64], piece: &[u8]) -> Reader
+    ensures { λ r. ⌜ r ≡ fedReader reader (now (table .entry)) (now (piece .entry)) ⌝ }
+    ensures { λ _. ⌜ now (table .exit) ≡ fedTable reader (now (table .entry)) (now (piece .entry)) ⌝ }
+{
+    if !belongs(reader, table) {
+        return reader;
+    }
     let mut reading = reader.reading;
     let mut line = reader.line;
     let mut held = reader.held;
@@ -47,6 +112,7 @@ pub fn feed(reader: Reader, table: &mut [u64], piece: &[u8]) -> Reader
         i += 1;
         if byte == b'\n' {
             reading = judge::take_line(reading, table, &line[..held]);
+            line = [0u8; 83];
             held = 0;
         } else if held < LONGEST_HELD {
             line[held] = byte;
@@ -86,15 +152,11 @@ fn refused_at(why: Refusal, line: u64) -> ReadAnswer
     }
 }
 
-// Inner: callers show as for `feed`. The file stops here.
-pub fn finish(reader: Reader, table: &mut [u64]) -> ReadAnswer
-    requires { ⌜ Feeding reader (now table) ⌝ }
-    ensures { λ r. ⌜ ((came fed : List ℕ) → Fed came fed reader (now (table .entry)) → r ≡ readAnswer fed came) ⌝ }
-    ensures { λ _. ⌜ ((came fed : List ℕ) → Fed came fed reader (now (table .entry)) → now (table .exit) ≡ readTable fed came) ⌝ }
+// Inner: callers show that the lines are few enough to count one more. What a reading comes to.
+fn answered(outcome: Outcome, reading: Reading) -> ReadAnswer
+    requires { ⌜ reading .lines ≤ mostLines ⌝ }
+    ensures { λ r. ⌜ r ≡ answeredBy outcome reading ⌝ }
 {
-    let reading = reader.reading;
-    let stage = reading.stage;
-    let outcome = stop_outcome(stage, reader.held);
     match outcome {
         Outcome::Accepted => {
             let rec = reading.rec;
@@ -104,11 +166,32 @@ pub fn finish(reader: Reader, table: &mut [u64]) -> ReadAnswer
                 line: 0,
             }
         }
-        Outcome::Refused(why) => {
-            runs::table::clear(table);
-            refused_at(why, reading.lines + 1)
-        }
+        Outcome::Refused(why) => refused_at(why, reading.lines + 1),
     }
+}
+
+// A refused reading leaves a zeroed table.
+fn settle_words(outcome: Outcome, table: &mut [u64])
+    ensures { λ _. ⌜ now (table .exit) ≡ wordsBy outcome (now (table .entry)) (zeroed (now (table .entry))) ⌝ }
+{
+    if let Outcome::Refused(_) = outcome {
+        runs::table::clear(table);
+    }
+}
+
+// The file stops here. A reader that does not belong to the table is refused, and no word changes.
+pub fn finish(reader: Reader, table: &mut [u64]) -> ReadAnswer
+    ensures { λ r. ⌜ r ≡ finishAnswer reader (now (table .entry)) ⌝ }
+    ensures { λ _. ⌜ now (table .exit) ≡ finishTable reader (now (table .entry)) ⌝ }
+{
+    if !belongs(reader, table) {
+        return refused_at(Refusal::Disagreement, 0);
+    }
+    let reading = reader.reading;
+    let stage = reading.stage;
+    let outcome = stop_outcome(stage, reader.held);
+    settle_words(outcome, table);
+    answered(outcome, reading)
 }
 
 // Reads a whole file into a table.

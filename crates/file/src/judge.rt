@@ -2,9 +2,10 @@
 ghost use mathlib.Core.Path.{_≡_};
 ghost use mathlib.Core.Bool.{true};
 ghost use mathlib.Core.List.{List};
-ghost use Prim.Native.Nat.{ℕ, _+_, _<_, _≤_, _^_};
+ghost use Prim.Native.Nat.{ℕ, _+_, _≤_, _^_};
 ghost use Rattle.units.specs.Limits.{largestSpan, spanHeld};
 ghost use Rattle.file.specs.Judging.{File, settledReading, misplaced, firstTick, laterStanding, reachesBy, takeS, takeFirstS, takeHead, takeEnd, onNothing, onHeaded, onOpen, onFilled, takeLine};
+ghost use Rattle.file.specs.Feeding.{mostLines};
 ghost use Rattle.file.specs.Sound.{Running, Begins, Narrow, Sound};
 use crate::ABSENT;
 use crate::Reading;
@@ -37,7 +38,7 @@ fn refuse(reading: Reading, why: Refusal) -> Reading
 
 // Inner: callers show that the lines are few enough to count one more.
 fn take(reading: Reading, stage: Stage, rec: Record) -> Reading
-    requires { ⌜ reading .lines ≤ 2 ^ 31 + 2 ⌝ }
+    requires { ⌜ reading .lines ≤ mostLines ⌝ }
     ensures { λ r. ⌜ r ≡ record { stage = stage; lines = reading .lines + 1; rec = rec } ⌝ }
 {
     Reading {
@@ -80,7 +81,7 @@ fn later_standing(t: WideTick, next: Tick) -> Standing
 
 // Inner: callers show that the lines are few enough. Takes the line if what it asked was accepted.
 fn settle(reading: Reading, stage: Stage, changed: Changed) -> Reading
-    requires { ⌜ reading .lines ≤ 2 ^ 31 + 2 ⌝ }
+    requires { ⌜ reading .lines ≤ mostLines ⌝ }
     ensures { λ r. ⌜ r ≡ settledReading (changed .outcome) stage reading (changed .rec) ⌝ }
 {
     let outcome = changed.outcome;
@@ -176,7 +177,8 @@ fn take_end(reading: Reading, count: u64) -> Reading
     requires { ⌜ (1 ≤ reading .lines) × (reading .lines ≤ 2 ^ 31 + 1) ⌝ }
     ensures { λ r. ⌜ ((ws : List ℕ) → _≡_ {A = File} (record { reading = r; words = ws }) (takeEnd reading ws count)) ⌝ }
 {
-    if count != reading.lines - 1 {
+    let s_lines = reading.lines - 1;
+    if count != s_lines {
         return refuse(reading, Refusal::BadOrder);
     }
     take(reading, Stage::Ended, reading.rec)

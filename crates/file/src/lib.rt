@@ -36,7 +36,9 @@ pub struct Reading {
 }
 
 // A reader that is fed a file piece by piece: how far it is, and the line that is not ended yet. Of a
-// line it holds one byte more than the longest frame has, which is enough to see that it is too long.
+// line it holds one byte more than the longest frame has, which is enough to see that it is too long;
+// the bytes behind those held are 0. `begin` makes one, and `feed` and `finish` refuse one that does
+// not belong to the table lent with it.
 pub struct Reader {
     pub reading: Reading,
     pub line: [u8; 83],

@@ -6,7 +6,7 @@ ghost use lib.ListN.{length, drop};
 ghost use Rattle.frames.specs.Fields.{digitCount, fieldDigits, fieldValues, Narrow};
 
 // Inner: the line has the digits of the row, no field is wider than a word, and there is a place for each value: so it is for every kind.
-pub fn read_fields(line: &[u8], widths: &[usize], values: &mut [u64])
+pub(crate) fn read_fields(line: &[u8], widths: &[usize], values: &mut [u64])
     requires { ⌜ (digitCount (now widths) ≤ length (now line)) × (Narrow (now widths)) × (length (now values) ≡ length (now widths)) ⌝ }
     ensures { λ _. ⌜ now (values .exit) ≡ fieldValues (now (widths .entry)) (now (line .entry)) ⌝ }
 {
@@ -21,7 +21,7 @@ pub fn read_fields(line: &[u8], widths: &[usize], values: &mut [u64])
 }
 
 // Inner: there is a value for each width, and room for the line and its feed. The length written.
-pub fn write_fields(out: &mut [u8], widths: &[usize], values: &[u64]) -> usize
+pub(crate) fn write_fields(out: &mut [u8], widths: &[usize], values: &[u64]) -> usize
     requires { ⌜ (digitCount (now widths) < length (now out)) × (length (now values) ≡ length (now widths)) ⌝ }
     ensures { λ r. ⌜ (r ≡ digitCount (now (widths .entry)) + 1) × (now (out .exit) ≡ fieldDigits (now (widths .entry)) (now (values .entry)) ++ 10 ∷ drop (digitCount (now (widths .entry)) + 1) (now (out .entry))) ⌝ }
 {

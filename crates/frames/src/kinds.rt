@@ -13,16 +13,16 @@ use units::Timescale;
 use units::WideTick;
 use window::Head;
 
-pub const HEAD_WIDTHS: [usize; 7] = [1, 4, 8, 8, 8, 8, 4];
+pub(crate) const HEAD_WIDTHS: [usize; 7] = [1, 4, 8, 8, 8, 8, 4];
 
-pub const S_WIDTHS: [usize; 4] = [1, 8, 4, 4];
+pub(crate) const S_WIDTHS: [usize; 4] = [1, 8, 4, 4];
 
-pub const END_WIDTHS: [usize; 2] = [1, 4];
+pub(crate) const END_WIDTHS: [usize; 2] = [1, 4];
 
-pub const CLOCK_WIDTHS: [usize; 2] = [1, 8];
+pub(crate) const CLOCK_WIDTHS: [usize; 2] = [1, 8];
 
 // Inner: the line has as many digits as its kind asks, which `read_line` tests. The frame that its values make.
-pub fn frame_of_kind(kind: u64, line: &[u8]) -> Frame
+pub(crate) fn frame_of_kind(kind: u64, line: &[u8]) -> Frame
     requires { ⌜ length (now line) ≡ lineLength kind ⌝ }
     ensures { λ r. ⌜ r ≡ frameAs kind (now (line .entry)) ⌝ }
 {

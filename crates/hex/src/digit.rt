@@ -4,7 +4,7 @@ ghost use Prim.Native.Nat.{_<_};
 ghost use Rattle.hex.specs.Digits.{isDigit, valueOf, digitOf};
 
 // '0' to '9' or 'a' to 'f'.
-pub fn is_digit(b: u8) -> bool
+pub(crate) fn is_digit(b: u8) -> bool
     ensures { λ r. ⌜ r ≡ isDigit b ⌝ }
 {
     if b < b'0' {
@@ -20,7 +20,7 @@ pub fn is_digit(b: u8) -> bool
 }
 
 // What a digit means; a byte that is none counts 0.
-pub fn value(b: u8) -> u64
+pub(crate) fn value(b: u8) -> u64
     ensures { λ r. ⌜ r ≡ valueOf b ⌝ }
 {
     if !is_digit(b) {
@@ -33,7 +33,7 @@ pub fn value(b: u8) -> u64
 }
 
 // Inner: sixteen and more have no digit. The digit that means v.
-pub fn digit_of(v: u64) -> u8
+pub(crate) fn digit_of(v: u64) -> u8
     requires { ⌜ v < 16 ⌝ }
     ensures { λ r. ⌜ r ≡ digitOf v ⌝ }
 {

@@ -71,6 +71,16 @@ shaped-drop zero rs t = t
 shaped-drop (suc n) [] t = t
 shaped-drop (suc n) (r ∷ rs) t = shaped-drop n rs (leads r rs t .rest)
 
+-- and those before some
+pub shaped-front : (xs ys : List Run) → runsShaped (xs ++ ys) ≡ true → runsShaped xs ≡ true
+unfolding runsShaped
+shaped-front [] ys s = refl
+shaped-front (r ∷ []) ys s =
+    let l = leads r ys s in led r [] (record { lasts = l .lasts; short = l .short; some = l .some; ends = l .ends; next = refl; rest = refl })
+shaped-front (r ∷ x ∷ xs) ys s =
+    let l = leads r (x ∷ xs ++ ys) s in
+    led r (x ∷ xs) (record { lasts = l .lasts; short = l .short; some = l .some; ends = l .ends; next = l .next; rest = shaped-front (x ∷ xs) ys (l .rest) })
+
 pub shaped-last : (rs : List Run) (r : Run) → runsShaped (rs ++ r ∷ []) ≡ true → runsShaped (r ∷ []) ≡ true
 shaped-last [] r t = t
 shaped-last (x ∷ rs) r t = shaped-last rs r (leads x (rs ++ r ∷ []) t .rest)

@@ -31,6 +31,11 @@ unfolding lastEnd
 join-append t [] ys j k = k
 join-append t (x ∷ xs) ys j k = (j .0, join-append (endOf x) xs ys (j .1) k)
 
+pub join-back : (t : ℕ) (xs ys : List Reference) → Joined t (xs ++ ys) → Joined (lastEnd t xs) ys
+unfolding lastEnd
+join-back t [] ys j = j
+join-back t (x ∷ xs) ys j = join-back (endOf x) xs ys (j .1)
+
 pub each-append : (P : Reference → Type 0) (xs ys : List Reference) → Each P xs → Each P ys → Each P (xs ++ ys)
 each-append P [] ys e f = f
 each-append P (x ∷ xs) ys e f = (e .0, each-append P xs ys (e .1) f)

@@ -21,14 +21,14 @@ use Rattle.runs.proofs.Encoded.{encoded, references-back, shaped-encode
 
 -- ---- zeros
 
-zeros-are : (ws : List ℕ) → zeros ws ≡ true → ws ≡ replicate (length ws) 0
+pub zeros-are : (ws : List ℕ) → zeros ws ≡ true → ws ≡ replicate (length ws) 0
 unfolding zeros
 zeros-are [] t = refl
 zeros-are (w ∷ ws) t =
     let b = and-eq-true-iff (eqb w 0) (zeros ws) .0 t in
     ap₂ _∷_ (eqb-true w 0 (b .0)) (zeros-are ws (b .1))
 
-are-zeros : (n : ℕ) → zeros (replicate n 0) ≡ true
+pub are-zeros : (n : ℕ) → zeros (replicate n 0) ≡ true
 unfolding zeros
 are-zeros zero = refl
 are-zeros (suc n) = are-zeros n

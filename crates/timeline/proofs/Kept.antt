@@ -88,7 +88,7 @@ module _ (h : Head) (c : ℕ) where
       go true e k = (suc (k .0), k .1)
       go false e k = (0, ap (λ xs. r ∷ xs) (unspent-every h c rs (none-passed h c (endOf r) rs (j .1) e)))
 
-every-append : (t : Reference → Bool) (xs ys : List Reference) → every t (xs ++ ys) ≡ (every t xs && every t ys)
+pub every-append : (t : Reference → Bool) (xs ys : List Reference) → every t (xs ++ ys) ≡ (every t xs && every t ys)
 unfolding every
 every-append t [] ys = refl
 every-append t (x ∷ xs) ys = ap (λ b. t x && b) (every-append t xs ys) ∙ sym (and-assoc (t x) (every t xs) (every t ys))
@@ -297,7 +297,7 @@ module _ (rec : Record) (ws : List ℕ) (span : Span) (n : ℕ) (fit : Fitting r
 
 -- ---- an append that is accepted
 
-refused-not : (why : Refusal) → Refused why ≡ Accepted → ⊥
+pub refused-not : (why : Refusal) → Refused why ≡ Accepted → ⊥
 refused-not why e = let z : _≡_ {A = ℕ} 0 1 = cc in suc-ne-zero 0 (sym z)
 
 -- past a test that refuses where it fails, and past one that refuses where it passes

@@ -73,7 +73,7 @@ fn counted(rec: Record, span: Span, count: u64, gone: u64, used: usize) -> Recor
 }
 
 // Inner: callers show all but that there is room. What is spent at once is counted and not stored.
-pub fn keep_new(rec: Record, table: &mut [u64], span: Span, count: u64) -> Changed
+fn keep_new(rec: Record, table: &mut [u64], span: Span, count: u64) -> Changed
     requires { ⌜ Fitting rec (now table) span count ⌝ }
     ensures { λ r. ⌜ r ≡ changedBy (roomOutcome rec (now (table .entry)) (span .0) count) (appended rec (now (table .entry)) (span .0) count) rec ⌝ }
     ensures { λ _. ⌜ now (table .exit) ≡ wordsBy (roomOutcome rec (now (table .entry)) (span .0) count) (canonical (length (now (table .entry))) (leftOf rec (now (table .entry)) (span .0) count)) (now (table .entry)) ⌝ }

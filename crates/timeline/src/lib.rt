@@ -12,7 +12,6 @@ mod trimming;
 pub use appending::append;
 pub use appending::append_joined;
 pub use appending::append_stamp;
-pub use appending::keep_new;
 pub use opening::open;
 pub use opening::zero_record;
 pub use trimming::trim;

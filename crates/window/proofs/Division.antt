@@ -140,7 +140,7 @@ module _ (h : Head) where
 
   -- ---- the least count that reaches the period end
 
-  reaches-is : (k : ℕ) → reachesEnd h k ≡ leb (endAt h + h .offset .0 * 1000) (k * 1000)
+  pub reaches-is : (k : ℕ) → reachesEnd h k ≡ leb (endAt h + h .offset .0 * 1000) (k * 1000)
   unfolding periodEnd
   reaches-is k =
       le-is (periodEnd h) (place h k) (endAt h) 0 (k * 1000) (h .offset .0 * 1000) (is-pos (endAt h)) (place-is h k) ∙

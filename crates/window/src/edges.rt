@@ -12,8 +12,8 @@ use units::Millis;
 use units::Tick;
 
 impl Head {
-    // Whether a tick lies before the period end. Inner: callers show the limits, so that the
-    // products fit 64 bits.
+    // Inner: callers show the limits, so that the products fit 64 bits. Whether a tick lies before
+    // the period end.
     pub fn before_end(self, at: Tick) -> bool
         requires { ⌜ Held self × (at .0 ≤ largestTick) ⌝ }
         ensures { λ r. ⌜ r ≡ beforeEnd self (at .0) ⌝ }

@@ -18,8 +18,8 @@ use units::Tick;
 use units::WideTick;
 
 impl Head {
-    // Which ends are passed at a clock. Inner: callers show the limits, so that the products fit 64
-    // bits.
+    // Inner: callers show the limits, so that the products fit 64 bits. Which ends are passed at a
+    // clock.
     pub fn passed_ends(self, clock: Millis) -> Passed
         requires { ⌜ Held self × (clock .0 ≤ largestMillis) ⌝ }
         ensures { λ r. ⌜ EndsPassed self (clock .0) r ⌝ }
@@ -45,7 +45,7 @@ impl Head {
         Needed::Ticks(WideTick(first), WideTick(end))
     }
 
-    // The ticks that the window at a clock needs. Inner: callers show the limits.
+    // Inner: callers show the limits. The ticks that the window at a clock needs.
     pub fn needed_at(self, clock: Millis) -> Needed
         requires { ⌜ Held self × (clock .0 ≤ largestMillis) ⌝ }
         ensures { λ r. ⌜ NeededTicks self (windowAt self (clock .0)) r ⌝ }
@@ -55,8 +55,8 @@ impl Head {
         self.ticks_between(from, to)
     }
 
-    // The ticks that the whole period needs. Inner: callers show the limits; of a period whose end
-    // is unknown nothing is said.
+    // Inner: callers show the limits; of a period whose end is unknown nothing is said. The ticks that
+    // the whole period needs.
     pub fn needed_whole(self) -> Needed
         requires { ⌜ Held self ⌝ }
         ensures { λ r. ⌜ NeededTicks self (wholePeriod self) r ⌝ }
@@ -65,8 +65,8 @@ impl Head {
         self.ticks_between(Grains(0), end)
     }
 
-    // The least count of references whose end reaches or passes the period end. Inner: callers show
-    // the limits, and that the first starts before a known end.
+    // Inner: callers show the limits, and that the first starts before a known end. The least count of
+    // references whose end reaches or passes the period end.
     pub fn least_count(self, start: Tick, span: Span) -> u64
         requires { ⌜ Held self × (start .0 ≤ largestTick) × (span .0 ≤ largestSpan) × (1 ≤ span .0) × (endKnown self ≡ true) × (beforeEnd self (start .0) ≡ true) ⌝ }
         ensures { λ r. ⌜ LeastCount self (start .0) (span .0) r ⌝ }

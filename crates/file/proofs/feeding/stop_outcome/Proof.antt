@@ -1,6 +1,6 @@
 -- `stop_outcome` meets its contract, case by case.
 use borrow.Author.Needs.{needs}
-use Rattle.file.proofs.Pieces.{stop-ended, stop-within, stop-refused, stop-before}
+use Rattle.file.proofs.Stopping.{stop-ended, stop-within, stop-refused, stop-before}
 use Rattle.file.proofs.feeding.stop_outcome.Statement.{statement}
 use Rattle.file.proofs.feeding.stop_outcome.Tie as tie
 
