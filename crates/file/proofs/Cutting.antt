@@ -1,4 +1,5 @@
--- Bytes cut into lines: whatever pieces they come in, the lines are the same; put together again they are the bytes; and no line has a feed in it.
+-- Bytes cut into lines: whatever pieces they come in, the lines are the same; put together again they are the bytes; no line has a feed in it; and of a
+-- line the first bytes decide.
 use mathlib.Core.Path.{_≡_, refl, sym, ap, ap₂, _∙_}
 use mathlib.Core.Bool.{Bool, true, false, cond}
 use mathlib.Core.List.{List, [], _∷_, _++_, append-assoc, append-nil}

@@ -2,7 +2,7 @@
 use mathlib.Core.Path.{_≡_, refl, sym, ap, ap₂, _∙_}
 use mathlib.Core.Bool.{Bool, true, false, cond, not, _&&_}
 use mathlib.Core.List.{List}
-use Prim.Native.Nat.{ℕ, _+_, _-_, _^_, _≤_, _<_}
+use Prim.Native.Nat.{ℕ, _+_, _-_, _≤_, _<_}
 use native.Mathlib.Omega.{arith}
 use borrow.Author.Tests.{le-leb, lt-ltb, le-ltb, eq-eqb, ne-eqb, not-true, not-false}
 use lib.Dec.{eqb, ltb}
@@ -40,6 +40,7 @@ use Rattle.file.specs.declared.Stage.the-variants.{Headed, Open, Filled,
 use Rattle.file.specs.declared.Reading.{Reading}
 use Rattle.file.specs.Judging.{File, settledReading, refused, taken, settled, absent, firstTick, laterStanding, firstNegative, reachOutcome, reachesBy, appendedBy, takeS, openedBy, takeFirstS, takeHead, sLines, takeEnd}
 use Rattle.file.specs.Least.{leastCount}
+use Rattle.file.specs.Feeding.{mostLines}
 use Rattle.file.specs.Sound.{Running, Begins}
 use Rattle.file.proofs.Counts.{least-is, least-some}
 
@@ -134,7 +135,7 @@ module _ (r : Reading) (ws : List ℕ) (span : Span) (h : Running r ws × (spanH
   unfolding inner
   reach-unknown z x k = reach-refused refusal.NoEndToReach (reach-is false (beforeEnd (r .rec .head) (r .rec .next .0)) least (not-known (r .rec .head) z) refl) x k
 
-  pub few-lines : r .lines ≤ 2 ^ 31 + 2
+  pub few-lines : r .lines ≤ mostLines
   few-lines = omega (arith, h .0 .few, agreeing (r .rec) ws (h .0 .agreed) .held .accepted)
 
   module _ (known : r .rec .head .duration .0 ≡ 0 → ⊥) where
@@ -183,11 +184,8 @@ module _ (r : Reading) (ws : List ℕ) (s : SFields) (h : Running r ws × (spanH
       (le-ltb (s .r) firstNegative n))
 
   module _ (n : s .r < firstNegative) where
-    pub s-lines : r .lines ≤ 2 ^ 31 + 2
+    pub s-lines : r .lines ≤ mostLines
     s-lines = few-lines r ws (s .d) h
-
-    pub s-asks : (agrees (r .rec) ws ≡ true) × (spanHeld (s .d) ≡ true) × (1 ≤ s .r + 1)
-    s-asks = (h .0 .agreed, h .1, omega arith)
 
     pub s-appended : (c : Changed) → c ≡ changedBy (fitOutcome (r .rec) ws (s .d .0) (s .r + 1)) (appended (r .rec) ws (s .d .0) (s .r + 1)) (r .rec) →
         (vs : List ℕ) → vs ≡ wordsBy (fitOutcome (r .rec) ws (s .d .0) (s .r + 1)) (canonical (length ws) (leftOf (r .rec) ws (s .d .0) (s .r + 1))) ws →
