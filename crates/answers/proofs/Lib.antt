@@ -9,6 +9,5 @@ pub mod Numbering
 pub mod Offering
 pub mod Spanning
 pub mod Exact
-pub mod Worked
 pub mod Completeness
 pub mod Closed

@@ -30,11 +30,11 @@ use Rattle.answers.proofs.Agreed.{counts-held}
 
 -- ---- numbers and places
 
-at : (m n : ℕ) (r : Reference) (rs : List Reference) → m ≡ n → numbered m (r ∷ rs) n ≡ Kept r
+pub at : (m n : ℕ) (r : Reference) (rs : List Reference) → m ≡ n → numbered m (r ∷ rs) n ≡ Kept r
 unfolding numbered
 at m n r rs e = ap (λ t. cond t (Kept r) (numbered (suc m) rs n)) (eq-eqb m n e)
 
-past : (m n : ℕ) (r : Reference) (rs : List Reference) → (m ≡ n → ⊥) → numbered m (r ∷ rs) n ≡ numbered (suc m) rs n
+pub past : (m n : ℕ) (r : Reference) (rs : List Reference) → (m ≡ n → ⊥) → numbered m (r ∷ rs) n ≡ numbered (suc m) rs n
 unfolding numbered
 past m n r rs o = ap (λ t. cond t (Kept r) (numbered (suc m) rs n)) (ne-eqb m n o)
 
@@ -57,7 +57,7 @@ moved a m n (r ∷ rs) = go (eqb m n) refl (moved a (suc m) n rs)
         past (a + m) (a + n) r rs (λ g. apart (omega arith)) ∙ ap (λ (k : ℕ). numbered k rs (a + n)) (sym (add-suc a m)) ∙ f
 
 -- behind the references that come first
-after : (m n : ℕ) (xs ys : List Reference) → m + length xs ≤ n → numbered m (xs ++ ys) n ≡ numbered (m + length xs) ys n
+pub after : (m n : ℕ) (xs ys : List Reference) → m + length xs ≤ n → numbered m (xs ++ ys) n ≡ numbered (m + length xs) ys n
 after m n [] ys l = ap (λ (k : ℕ). numbered k ys n) (sym (add-zero m))
 after m n (x ∷ xs) ys l =
     past m n x (xs ++ ys) (λ e. let z : ⊥ = omega arith in z) ∙

@@ -4,6 +4,5 @@ pub mod Judgement
 pub mod Shares
 pub mod Available
 pub mod Spans
-pub mod Cases
 pub mod Ranges
 pub mod Steps

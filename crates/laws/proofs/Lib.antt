@@ -1,3 +1,8 @@
 -- The proofs of the statements of specs/.
 pub mod ByHand
 pub mod Histories
+pub mod Verdicts
+pub mod Offers
+pub mod Files
+pub mod Demand2
+pub mod Unique

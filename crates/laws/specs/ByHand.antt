@@ -1,18 +1,57 @@
--- The cases that the paper works by hand, as one table of equations over the definitions. Paper: By hand; Errors we expect
--- someone to make.
+-- The cases that the paper works by hand, as one table of equations over the very definitions that the contracts cite: from an
+-- opening, call by call, with the record and the table that each leaves. Paper: By hand; Errors we expect someone to make.
 use Prim.Native.Nat.{ℕ}
 use mathlib.Core.Path.{_≡_}
-use mathlib.Core.Bool.{true, false}
+use mathlib.Core.List.{List, [], _∷_, _++_}
+use lib.IntN.{pos}
+use lib.ListN.{replicate}
+use Rattle.units.specs.declared.Grain.{Grain}
+use Rattle.units.specs.declared.Millis.{Millis}
+use Rattle.units.specs.declared.Number.{Number}
 use Rattle.units.specs.declared.Stamp.{Stamp}
 use Rattle.units.specs.declared.Tick.{Tick}
 use Rattle.units.specs.declared.WideTick.{WideTick}
 use Rattle.units.specs.declared.standing.Standing.the-variants.{Joins, Gap, Overlap}
-use Rattle.units.specs.Standing.{tickStanding, stampStanding, standingNumber}
+use Rattle.units.specs.Standing.{tickStanding, stampStanding}
 use Rattle.window.specs.declared.Head.{Head}
-use Rattle.window.specs.declared.Needed.the-variants.{Nothing, Ticks}
-use Rattle.window.specs.Place.{beforeEnd}
-use Rattle.window.specs.Window.{windowAt, wholePeriod, passed}
-use Rattle.window.specs.Ticks.{NeededTicks, LeastCount}
+use Rattle.window.specs.declared.Needed.the-variants.{Ticks}
+use Rattle.window.specs.Window.{wholePeriod}
+use Rattle.window.specs.Ticks.{NeededTicks}
+use Rattle.timeline.specs.declared.Outcome.{Outcome}
+use Rattle.timeline.specs.declared.Outcome.the-variants.{Accepted}
+use Rattle.timeline.specs.Keeping.{outcomeNumber}
+use Rattle.timeline.specs.Opening.{openAnswer, openTable}
+use Rattle.timeline.specs.Appending.{appendAnswer}
+use Rattle.timeline.specs.Trimming.{trimAnswer}
+use Rattle.answers.specs.declared.Verdict.the-variants.{Nothing, Complete, Lacking}
+use Rattle.answers.specs.declared.Percent.the-variants.{Of}
+use Rattle.answers.specs.declared.Availability.the-variants.{Ends, NeverEnds}
+use Rattle.answers.specs.Judgement.{verdictAt, verdictWhole}
+use Rattle.answers.specs.Shares.{verdictPercent}
+use Rattle.answers.specs.Available.{availabilityIn}
+use Rattle.frames.specs.Worked.{bytesOf}
+use Rattle.file.specs.Judging.{readAnswer, readTable}
+use Rattle.laws.specs.Calls.{State, byTick, trimAt, after}
+
+-- ---- numbers as what they count
+
+abbrev pub tick : ℕ → Tick
+tick n = record { 0 = n }
+
+abbrev pub wide : ℕ → WideTick
+wide n = record { 0 = n }
+
+abbrev pub stamp : ℕ → Stamp
+stamp n = record { 0 = n }
+
+abbrev pub millis : ℕ → Millis
+millis n = record { 0 = n }
+
+abbrev pub number : ℕ → Number
+number n = record { 0 = n }
+
+abbrev pub grains : ℕ → Grain
+grains n = record { 0 = pos n }
 
 -- timescale, offset, start, duration, depth, first number
 abbrev pub headOf : ℕ → ℕ → ℕ → ℕ → ℕ → ℕ → Head
@@ -26,51 +65,142 @@ headOf t o s d p n =
       first = record { 0 = n };
     }
 
+-- ---- calls
+
+-- what an opening leaves in a table of so many words
+abbrev pub opening : Head → ℕ → ℕ → State
+opening h t words = record { rec = openAnswer h (tick t) .rec; words = openTable h (tick t) (replicate words 0) }
+
+-- an append by full tick: start, duration and count
+abbrev pub appending : State → ℕ → ℕ → ℕ → State
+appending s t d n = after s (byTick (wide t) d n)
+
+abbrev pub outcomeOf : State → ℕ → ℕ → ℕ → Outcome
+outcomeOf s t d n = appendAnswer (s .rec) (s .words) (tickStanding (wide t) (s .rec .next)) d n .outcome
+
+abbrev pub trimming : State → ℕ → State
+trimming s c = after s (trimAt (millis c))
+
+abbrev pub trimOf : State → ℕ → Outcome
+trimOf s c = trimAnswer (s .rec) (s .words) (millis c) .outcome
+
+-- head, accepted, dropped, next tick, greatest clock, used runs, and the words
+abbrev pub stateOf : Head → ℕ → ℕ → ℕ → ℕ → ℕ → List ℕ → State
+stateOf h a d t c u ws = record { rec = record { head = h; accepted = a; dropped = d; next = tick t; clock = millis c; used = u }; words = ws }
+
+-- ---- the cases
+
+-- A: a reference of 40 ticks from tick 111, then one of 10
 abbrev pub headA : Head
 headA = headOf 10 100 30_000 10_000 0 0
 
+abbrev pub openA : State
+openA = opening headA 111 6
+
+abbrev pub firstA : State
+firstA = appending openA 111 40 1
+
+abbrev pub bothA : State
+bothA = appending firstA 151 10 1
+
+-- B: five references of 4000 ticks from tick 0, the first with number 1
 abbrev pub headB : Head
 headB = headOf 1000 0 0 0 10_000 1
 
-abbrev pub headD : Head
-headD = headOf 3 0 0 500 0 0
+abbrev pub openB : State
+openB = opening headB 0 3
 
-abbrev pub tick : ℕ → Tick
-tick n = record { 0 = n }
+abbrev pub fiveB : State
+fiveB = appending openB 0 4000 5
 
-abbrev pub wide : ℕ → WideTick
-wide n = record { 0 = n }
+-- trimmed at 13,999, then at 14,000, then at 18,000
+abbrev pub trimB1 : State
+trimB1 = trimming fiveB 13_999
 
-abbrev pub stamp : ℕ → Stamp
-stamp n = record { 0 = n }
+abbrev pub trimB2 : State
+trimB2 = trimming trimB1 14_000
 
--- the next tick of case C
+abbrev pub trimB3 : State
+trimB3 = trimming trimB2 18_000
+
+-- C: the next tick
 abbrev pub nextC : Tick
 nextC = tick 4_294_970_000
 
+-- D: references of one tick from tick 0; the period ends inside tick 1
+abbrev pub headD : Head
+headD = headOf 3 0 0 500 0 0
+
+abbrev pub openD : State
+openD = opening headD 0 3
+
+abbrev pub oneD : State
+oneD = appending openD 0 1 1
+
+abbrev pub twoD : State
+twoD = appending oneD 1 1 1
+
+-- D as a file: its one S line has duration 1 and r of -1
+abbrev pub fileD : List ℕ
+fileD =
+    bytesOf "01000000030000000000000000000000000000000000000000000001f4000000000000000000000000" ++
+    10 ∷
+    bytesOf "02000000000000000000000001ffffffff" ++
+    10 ∷
+    bytesOf "0300000001" ++
+    10 ∷
+    []
+
 pub record ByHand : Type 0 where
-  -- A: after 161, a start of 170 is refusal 4; the whole period needs 100 ticks, from 100 on
-  pub a-gap : standingNumber (tickStanding (wide 170) (tick 161)) ≡ 4
-  pub a-whole : NeededTicks headA (wholePeriod headA) (Ticks (wide 100) (wide 200))
-  -- B: what is spent at each clock, by the ends 4,000, 8,000 and 12,000
-  pub b-13999 : passed headB 4000 13_999 ≡ false
-  pub b-14000 : passed headB 4000 14_000 ≡ true
-  pub b-14000-next : passed headB 8000 14_000 ≡ false
-  pub b-14001 : passed headB 8000 14_001 ≡ false
-  pub b-18000 : passed headB 8000 18_000 ≡ true
-  pub b-18000-next : passed headB 12_000 18_000 ≡ false
-  -- B: what the window needs
-  pub b-needed-14000 : NeededTicks headB (windowAt headB 14_000) (Ticks (wide 4000) (wide 14_000))
-  pub b-needed-20001 : NeededTicks headB (windowAt headB 20_001) (Ticks (wide 10_001) (wide 20_001))
-  pub b-needed-0 : NeededTicks headB (windowAt headB 0) Nothing
+  -- A: both appends are accepted, and the next tick is 161; a start of 170 is refusal 4
+  pub a-open : openAnswer headA (tick 111) .outcome ≡ Accepted
+  pub a-first : outcomeOf openA 111 40 1 ≡ Accepted
+  pub a-second : outcomeOf firstA 151 10 1 ≡ Accepted
+  pub a-next : bothA .rec .next ≡ tick 161
+  pub a-state : bothA ≡ stateOf headA 2 0 161 0 2 (111 ∷ 40 ∷ 1 ∷ 151 ∷ 10 ∷ 1 ∷ [])
+  pub a-gap : outcomeNumber (outcomeOf bothA 170 10 1) ≡ 4
+  -- A: the first is available from 35.1 s on; the whole period needs 100 ticks, 50 are covered, and tick 100 is lacking
+  pub a-available : availabilityIn (bothA .rec) (bothA .words) (number 0) ≡ NeverEnds (grains 351_000)
+  pub a-whole : verdictWhole (bothA .rec) (bothA .words) ≡ Lacking 100 50 (wide 100)
+  -- B: one append brings all five
+  pub b-open : openAnswer headB (tick 0) .outcome ≡ Accepted
+  pub b-append : outcomeOf openB 0 4000 5 ≡ Accepted
+  pub b-state : fiveB ≡ stateOf headB 5 0 20_000 0 1 (0 ∷ 4000 ∷ 5 ∷ [])
+  -- B: a trim at 13,999 drops none, one at 14,000 then one, and one at 18,000 then two in all
+  pub b-13999 : trimOf fiveB 13_999 ≡ Accepted
+  pub b-none : trimB1 ≡ stateOf headB 5 0 20_000 13_999 1 (0 ∷ 4000 ∷ 5 ∷ [])
+  pub b-14000 : trimOf trimB1 14_000 ≡ Accepted
+  pub b-one : trimB2 ≡ stateOf headB 5 1 20_000 14_000 1 (4000 ∷ 4000 ∷ 4 ∷ [])
+  pub b-18000 : trimOf trimB2 18_000 ≡ Accepted
+  pub b-two : trimB3 ≡ stateOf headB 5 2 20_000 18_000 1 (8000 ∷ 4000 ∷ 3 ∷ [])
+  -- B: the same three trims, each without the others; and at 14,001 the reference from 4,000 stays
+  pub b-14000-alone : trimming fiveB 14_000 ≡ stateOf headB 5 1 20_000 14_000 1 (4000 ∷ 4000 ∷ 4 ∷ [])
+  pub b-14001-alone : trimming fiveB 14_001 ≡ stateOf headB 5 1 20_000 14_001 1 (4000 ∷ 4000 ∷ 4 ∷ [])
+  pub b-18000-alone : trimming fiveB 18_000 ≡ stateOf headB 5 2 20_000 18_000 1 (8000 ∷ 4000 ∷ 3 ∷ [])
+  -- B: without trims, the verdict at 14,000, at 20,001 and at 0
+  pub b-complete : verdictAt (fiveB .rec) (fiveB .words) (millis 14_000) ≡ Complete 10_000
+  pub b-lacking : verdictAt (fiveB .rec) (fiveB .words) (millis 20_001) ≡ Lacking 10_000 9_999 (wide 20_000)
+  pub b-percent : verdictPercent (verdictAt (fiveB .rec) (fiveB .words) (millis 20_001)) ≡ Of 99
+  pub b-nothing : verdictAt (fiveB .rec) (fiveB .words) (millis 0) ≡ Nothing
+  -- B: when number 3 is available, before the trims and after them
+  pub b-available : availabilityIn (fiveB .rec) (fiveB .words) (number 3) ≡ Ends (grains 12_000_000) (grains 26_000_000)
+  pub b-available-after : availabilityIn (trimB3 .rec) (trimB3 .words) (number 3) ≡ Ends (grains 12_000_000) (grains 26_000_000)
   -- C: stamps around the next tick, and at half of the circle
   pub c-joins : stampStanding (stamp 2704) nextC ≡ Joins
   pub c-gap : stampStanding (stamp 2705) nextC ≡ Gap
   pub c-overlap : stampStanding (stamp 2703) nextC ≡ Overlap
   pub c-last-gap : stampStanding (stamp 2_147_486_351) nextC ≡ Gap
   pub c-first-overlap : stampStanding (stamp 2_147_486_352) nextC ≡ Overlap
-  -- D: the period end lies inside tick 1, so ticks 0 and 1 are needed; two references of one tick reach it, and tick 2 is past it
+  -- D: ticks 0 and 1 are needed, and with one reference of 1 tick 1 is lacking
+  pub d-open : openAnswer headD (tick 0) .outcome ≡ Accepted
   pub d-needed : NeededTicks headD (wholePeriod headD) (Ticks (wide 0) (wide 2))
-  pub d-count : LeastCount headD 0 1 2
-  pub d-inside : beforeEnd headD 1 ≡ true
-  pub d-past : beforeEnd headD 2 ≡ false
+  pub d-one : outcomeOf openD 0 1 1 ≡ Accepted
+  pub d-lacking : verdictWhole (oneD .rec) (oneD .words) ≡ Lacking 2 1 (wide 1)
+  -- D: the file with the negative r gives two references
+  pub d-read : readAnswer fileD (replicate 3 0) ≡ record { outcome = Accepted; rec = twoD .rec; line = 0 }
+  pub d-table : readTable fileD (replicate 3 0) ≡ twoD .words
+  -- D: after two references of 1 the period is complete, and an append with start 2 is refusal 8
+  pub d-two : outcomeOf oneD 1 1 1 ≡ Accepted
+  pub d-state : twoD ≡ stateOf headD 2 0 2 0 1 (0 ∷ 1 ∷ 2 ∷ [])
+  pub d-complete : verdictWhole (twoD .rec) (twoD .words) ≡ Complete 2
+  pub d-past : outcomeNumber (outcomeOf twoD 2 1 1) ≡ 8

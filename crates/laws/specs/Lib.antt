@@ -1,3 +1,5 @@
 pub mod ByHand
 pub mod Calls
+pub mod Demand2
 pub mod History
+pub mod Unique

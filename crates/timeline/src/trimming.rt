@@ -35,11 +35,16 @@ fn trim_agreeing(rec: Record, table: &mut [u64], clock: Millis) -> Record
     let used = rec.used;
     let gone = gone_in(passed, table, used, rec.accepted - rec.dropped);
     let left = runs::table::drop_front(table, used, gone);
-    let mut kept = rec;
-    kept.clock = greatest;
-    kept.dropped = rec.dropped + gone;
-    kept.used = left;
-    kept
+    let head = rec.head;
+    let next = rec.next;
+    Record {
+        head,
+        accepted: rec.accepted,
+        dropped: rec.dropped + gone,
+        next,
+        clock: greatest,
+        used: left,
+    }
 }
 
 pub fn trim(rec: Record, table: &mut [u64], clock: Millis) -> Changed

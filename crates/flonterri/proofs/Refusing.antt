@@ -1,0 +1,230 @@
+-- What a refused call leaves: all memory as it came, but for the zero record of a refused opening, and for the zeros and the
+-- line of a refused reading. And what a complete verdict says: all covered, and 100 percent.
+use mathlib.Core.Path.{_≡_, refl, sym, ap, _∙_}
+use mathlib.Core.Bool.{Bool, true, false, cond, false≢true}
+use mathlib.Core.List.{List, [], _∷_}
+use Prim.Native.Nat.{ℕ, _+_}
+use native.Mathlib.Omega.{arith}
+use borrow.Author.Tests.{eqb-true}
+use lib.Dec.{eqb}
+use lib.IntN.{ℤ}
+use lib.ListN.{length, replicate}
+use Rattle.units.specs.declared.Millis.{Millis}
+use Rattle.units.specs.Standing.{tickStanding, stampStanding}
+use Rattle.agreement.specs.declared.Record.{Record}
+use Rattle.timeline.specs.declared.Outcome.{Outcome}
+use Rattle.timeline.specs.declared.Outcome.the-variants as outcome
+use Rattle.timeline.specs.Keeping.{outcomeNumber, changedBy, wordsBy}
+use Rattle.timeline.specs.Opening.{freshRecord, zeroRecord, openOutcome}
+use Rattle.timeline.specs.Appending.{appendOutcome}
+use Rattle.timeline.specs.Trimming.{trimOutcome}
+use Rattle.answers.specs.declared.Verdict.{Verdict}
+use Rattle.answers.specs.declared.Verdict.the-variants as verdict
+use Rattle.answers.specs.declared.Percent.{Percent}
+use Rattle.answers.specs.declared.Percent.the-variants.{Of, Undefined}
+use Rattle.answers.specs.declared.Availability.{Availability}
+use Rattle.answers.specs.declared.Availability.the-variants as availability
+use Rattle.answers.specs.declared.Touching.{Touching}
+use Rattle.answers.specs.declared.Touching.the-variants as touching
+use Rattle.answers.specs.Judgement.{verdictAt, verdictWhole, complete}
+use Rattle.answers.specs.Shares.{verdictPercent, hundred}
+use Rattle.answers.proofs.Completeness.{percent-at, percent-whole}
+use Rattle.file.specs.declared.WriteAnswer.{WriteAnswer}
+use Rattle.file.specs.declared.WriteAnswer.the-variants as written
+use Rattle.file.specs.Judging.{readLines, readOutcome, answeredBy, readAnswer, readTable, zeroed}
+use Rattle.file.specs.Writing.{writeAnswer, outputBy, fileFor}
+use Rattle.flonterri.specs.Words.{recordWords, recordOf, wordsOf, headWith}
+use Rattle.flonterri.specs.Tells.{Tells, percentWord, verdictTells, availabilityTells, touchingTells, writeTells}
+use Rattle.flonterri.specs.Face.{wrongRecord, wrongLength, guarded, Changes, changes, opens, appends, appendsStamp, trims, tells, tellsVerdict, tellsWhole, tellsAvailability, tellsTouching, Reads, readsBy, reads, Writes, writesBy, writes}
+use Rattle.flonterri.proofs.Words.{words-record}
+use Rattle.flonterri.proofs.Lengths.{both-right, behind}
+
+-- ---- the calls that change
+
+-- a call that leaves record and table as they came where it is refused
+module _ (ws ts : List ℕ) (new : Record) (left : List ℕ) where
+  abbrev after : Outcome → Changes
+  after o = changes ws ts (changedBy o new (recordOf ws)) (wordsBy o left ts)
+
+  pub refused-leaves : (o : Outcome) → (after o .number ≡ 0 → ⊥) → (after o .words ≡ ws) × (after o .table ≡ ts)
+  unfolding changes guarded wrongRecord changedBy wordsBy
+  refused-leaves o k = go (eqb (length ws) recordWords) refl o k
+    where
+      at : Bool → Outcome → Changes
+      at t o =
+          cond (eqb (cond t 0 2) 0)
+          (record { number = outcomeNumber (changedBy o new (recordOf ws) .outcome); words = wordsOf (changedBy o new (recordOf ws) .rec); table = wordsBy o left ts })
+          (record { number = cond t 0 2; words = ws; table = ts })
+
+      go : (t : Bool) → eqb (length ws) recordWords ≡ t → (o : Outcome) → (at t o .number ≡ 0 → ⊥) → (at t o .words ≡ ws) × (at t o .table ≡ ts)
+      go false e o k = (refl, refl)
+      go true e outcome.Accepted k = absurd (k refl)
+      go true e (outcome.Refused why) k = (words-record ws (eqb-true _ _ e), refl)
+
+module _ (ws ts : List ℕ) where
+  pub append-refused :
+      (start d n : ℕ) → (appends ws ts start d n .number ≡ 0 → ⊥) → (appends ws ts start d n .words ≡ ws) × (appends ws ts start d n .table ≡ ts)
+  unfolding appends
+  append-refused start d n k = refused-leaves ws ts _ _ (appendOutcome (recordOf ws) ts (tickStanding (record { 0 = start }) (recordOf ws .next)) d n) k
+
+  pub append-stamp-refused :
+      (stamp d n : ℕ)
+      → (appendsStamp ws ts stamp d n .number ≡ 0 → ⊥)
+      → (appendsStamp ws ts stamp d n .words ≡ ws) × (appendsStamp ws ts stamp d n .table ≡ ts)
+  unfolding appendsStamp
+  append-stamp-refused stamp d n k =
+      refused-leaves ws ts _ _ (appendOutcome (recordOf ws) ts (stampStanding (record { 0 = stamp }) (recordOf ws .next)) d n) k
+
+  pub trim-refused : (c : ℕ) → (trims ws ts c .number ≡ 0 → ⊥) → (trims ws ts c .words ≡ ws) × (trims ws ts c .table ≡ ts)
+  unfolding trims
+  trim-refused c k = refused-leaves ws ts _ _ (trimOutcome (recordOf ws) ts (record { 0 = c })) k
+
+  -- a refused opening zeroes the record
+  module _ (a b c d e f t : ℕ) where
+    pub open-refused : opens ws ts a b c d e f t .number ≡ 1 → (opens ws ts a b c d e f t .words ≡ replicate recordWords 0) × (opens ws ts a b c d e f t .table ≡ ts)
+    unfolding opens changes guarded wrongRecord changedBy wordsBy wordsOf
+    open-refused n = go (eqb (length ws) recordWords) (openOutcome (headWith a b c d e f) (record { 0 = t })) n
+      where
+        at : Bool → Outcome → Changes
+        at s o =
+            cond (eqb (cond s 0 2) 0)
+            (record {
+              number = outcomeNumber (changedBy o (freshRecord (headWith a b c d e f) (record { 0 = t })) zeroRecord .outcome);
+              words = wordsOf (changedBy o (freshRecord (headWith a b c d e f) (record { 0 = t })) zeroRecord .rec);
+              table = wordsBy o (replicate (length ts) 0) ts;
+            })
+            (record { number = cond s 0 2; words = ws; table = ts })
+
+        go : (s : Bool) (o : Outcome) → at s o .number ≡ 1 → (at s o .words ≡ replicate recordWords 0) × (at s o .table ≡ ts)
+        go false o n = let z : ⊥ = omega arith in absurd z
+        go true outcome.Accepted n = let z : ⊥ = omega arith in absurd z
+        go true (outcome.Refused why) n = (refl, refl)
+
+-- ---- the calls that look
+
+-- what an answer that is refused tells: nothing
+pub verdict-silent : (v : Verdict) (out : List ℕ) → (verdictTells v out .number ≡ 0 → ⊥) → verdictTells v out .out ≡ out
+unfolding verdictTells
+verdict-silent verdict.Nothing out k = absurd (k refl)
+verdict-silent (verdict.Complete n) out k = absurd (k refl)
+verdict-silent (verdict.Lacking n m t) out k = absurd (k refl)
+verdict-silent (verdict.Refused why) out k = refl
+
+pub availability-silent : (v : Availability) (out : List ℤ) → (availabilityTells v out .number ≡ 0 → ⊥) → availabilityTells v out .out ≡ out
+unfolding availabilityTells
+availability-silent (availability.NeverEnds a) out k = absurd (k refl)
+availability-silent (availability.Ends a b) out k = absurd (k refl)
+availability-silent (availability.Refused why) out k = refl
+
+pub touching-silent : (v : Touching) (out : List ℕ) → (touchingTells v out .number ≡ 0 → ⊥) → touchingTells v out .out ≡ out
+unfolding touchingTells
+touching-silent (touching.Words a b) out k = absurd (k refl)
+touching-silent (touching.Refused why) out k = refl
+
+-- and so a refused call that looks leaves out as it came
+pub refused-tells :
+    {A : Type 0} (ws : List ℕ) (size : ℕ) (call : List A → Tells A) (out : List A)
+    → ((call out .number ≡ 0 → ⊥) → call out .out ≡ out)
+    → (tells ws size call out .number ≡ 0 → ⊥)
+    → tells ws size call out .out ≡ out
+unfolding tells guarded
+refused-tells {A} ws size call out silent k = go (eqb (wrongLength (length ws) (length out) size) 0) k
+  where
+    at : Bool → Tells A
+    at t = cond t (call out) (record { number = wrongLength (length ws) (length out) size; out = out })
+
+    go : (t : Bool) → (at t .number ≡ 0 → ⊥) → at t .out ≡ out
+    go true k = silent k
+    go false k = refl
+
+module _ (ws ts : List ℕ) where
+  pub verdict-refused : (c : ℕ) (out : List ℕ) → (tellsVerdict ws ts c out .number ≡ 0 → ⊥) → tellsVerdict ws ts c out .out ≡ out
+  unfolding tellsVerdict
+  verdict-refused c out k = refused-tells ws 5 (verdictTells (verdictAt (recordOf ws) ts (record { 0 = c }))) out (verdict-silent _ out) k
+
+  pub whole-refused : (out : List ℕ) → (tellsWhole ws ts out .number ≡ 0 → ⊥) → tellsWhole ws ts out .out ≡ out
+  unfolding tellsWhole
+  whole-refused out k = refused-tells ws 5 (verdictTells (verdictWhole (recordOf ws) ts)) out (verdict-silent _ out) k
+
+  pub availability-refused : (n : ℕ) (out : List ℤ) → (tellsAvailability ws ts n out .number ≡ 0 → ⊥) → tellsAvailability ws ts n out .out ≡ out
+  unfolding tellsAvailability
+  availability-refused n out k = refused-tells ws 3 _ out (availability-silent _ out) k
+
+  pub touching-refused : (a b : ℕ) (out : List ℕ) → (tellsTouching ws ts a b out .number ≡ 0 → ⊥) → tellsTouching ws ts a b out .out ≡ out
+  unfolding tellsTouching
+  touching-refused a b out k = refused-tells ws 2 _ out (touching-silent _ out) k
+
+-- ---- the file
+
+-- a refused reading zeroes record and table, and says which line
+module _ (bytes ws ts out : List ℕ) (l : length ws ≡ recordWords) (m : length out ≡ 1) where
+  abbrev readBy : Outcome → Reads
+  readBy o =
+      let answer = answeredBy o (readLines bytes ts .reading) in
+      record {
+        number = outcomeNumber (answer .outcome);
+        words = wordsOf (answer .rec);
+        table = wordsBy o (readLines bytes ts .words) (zeroed ts);
+        out = answer .line ∷ [];
+      }
+
+  is-read : readBy (readOutcome bytes ts) ≡ reads bytes ws ts out
+  unfolding reads readsBy readAnswer readTable
+  is-read = behind _ _ _ 0 (both-right _ _ 1 l m) refl
+
+  pub read-refused :
+      (reads bytes ws ts out .number ≡ 0 → ⊥)
+      → (reads bytes ws ts out .words ≡ replicate recordWords 0)
+      × ((reads bytes ws ts out .table ≡ replicate (length ts) 0) × (reads bytes ws ts out .out ≡ (readLines bytes ts .reading .lines + 1) ∷ []))
+  unfolding wordsBy wordsOf
+  read-refused k = go (readOutcome bytes ts) is-read
+    where
+      go :
+          (o : Outcome)
+          → readBy o ≡ reads bytes ws ts out
+          → (reads bytes ws ts out .words ≡ replicate recordWords 0)
+          × ((reads bytes ws ts out .table ≡ replicate (length ts) 0) × (reads bytes ws ts out .out ≡ (readLines bytes ts .reading .lines + 1) ∷ []))
+      go outcome.Accepted e = absurd (k (ap (λ (y : Reads). y .number) (sym e)))
+      go (outcome.Refused why) e = (ap (λ (y : Reads). y .words) (sym e), (ap (λ (y : Reads). y .table) (sym e), ap (λ (y : Reads). y .out) (sym e)))
+
+-- a refused writing changes no byte
+pub write-refused :
+    (ws ts bytes out : List ℕ)
+    → (writes ws ts bytes out .number ≡ 0 → ⊥)
+    → (writes ws ts bytes out .bytes ≡ bytes) × (writes ws ts bytes out .out ≡ out)
+unfolding writes writesBy guarded outputBy writeTells
+write-refused ws ts bytes out k = go (eqb (wrongLength (length ws) (length out) 1) 0) (writeAnswer (recordOf ws) ts (length bytes)) k
+  where
+    at : Bool → WriteAnswer → Writes
+    at t x =
+        cond t
+        (record { number = writeTells x out .number; bytes = outputBy x (fileFor (recordOf ws) ts) bytes; out = writeTells x out .out })
+        (record { number = wrongLength (length ws) (length out) 1; bytes = bytes; out = out })
+
+    go : (t : Bool) (x : WriteAnswer) → (at t x .number ≡ 0 → ⊥) → (at t x .bytes ≡ bytes) × (at t x .out ≡ out)
+    go false x k = (refl, refl)
+    go true (written.Written n) k = absurd (k refl)
+    go true (written.Refused why) k = (refl, refl)
+
+-- ---- a complete verdict
+
+hundred-word : (p : Percent) → hundred p ≡ true → percentWord p ≡ 100
+hundred-word (Of n) e = eqb-true n 100 e
+hundred-word Undefined e = absurd (false≢true e)
+
+complete-words : (v : Verdict) (n : ℕ) (out : List ℕ) → hundred (verdictPercent v) ≡ complete v → v ≡ verdict.Complete n → verdictTells v out .out ≡ 1 ∷ n ∷ n ∷ 0 ∷ 100 ∷ []
+unfolding verdictTells
+complete-words v n out h e =
+    ap (λ y. verdictTells y out .out) e ∙ ap (λ p. 1 ∷ n ∷ n ∷ 0 ∷ p ∷ []) (hundred-word (verdictPercent (verdict.Complete n)) (ap (λ y. hundred (verdictPercent y)) (sym e) ∙ h ∙ ap complete e))
+
+pub complete-at :
+    (rec : Record) (ts : List ℕ) (c : Millis) (n : ℕ) (out : List ℕ)
+    → verdictAt rec ts c ≡ verdict.Complete n
+    → verdictTells (verdictAt rec ts c) out .out ≡ 1 ∷ n ∷ n ∷ 0 ∷ 100 ∷ []
+complete-at rec ts c n out e = complete-words (verdictAt rec ts c) n out (percent-at rec ts c) e
+
+pub complete-whole :
+    (rec : Record) (ts : List ℕ) (n : ℕ) (out : List ℕ)
+    → verdictWhole rec ts ≡ verdict.Complete n
+    → verdictTells (verdictWhole rec ts) out .out ≡ 1 ∷ n ∷ n ∷ 0 ∷ 100 ∷ []
+complete-whole rec ts n out e = complete-words (verdictWhole rec ts) n out (percent-whole rec ts) e

@@ -1,0 +1,36 @@
+-- Records and lists of 11 words are one to one, and stores over all of a list leave what was stored.
+use mathlib.Core.Path.{_≡_, refl, sym, ap, _∙_}
+use mathlib.Core.List.{List, [], _∷_, _++_, append-nil}
+use Prim.Native.Nat.{ℕ, zero, suc, _+_}
+use native.Mathlib.Omega.{arith}
+use lib.ListN.{length, getD, drop, drop-of-length-le}
+use lib.Seq.{sets, sets-eq, drop-cons}
+use Rattle.agreement.specs.declared.Record.{Record}
+use Rattle.flonterri.specs.Words.{recordWords, recordOf, wordsOf}
+
+pub all-set : {A : Type 0} (l vs : List A) → length l ≡ length vs → sets l 0 vs ≡ vs
+all-set l vs e =
+    sets-eq vs l 0 (omega arith) ∙ ap (λ r. vs ++ r) (drop-of-length-le l {i = 0 + length vs} (omega arith)) ∙ append-nil vs
+
+-- so many words from a place on
+abbrev wordsFrom : ℕ → ℕ → List ℕ → List ℕ
+wordsFrom zero i ws = []
+wordsFrom (suc n) i ws = getD ws i 0 ∷ wordsFrom n (suc i) ws
+
+all-from : (ws : List ℕ) (n i : ℕ) → i + n ≡ length ws → wordsFrom n i ws ≡ drop i ws
+all-from ws zero i e = sym (drop-of-length-le ws {i = i} (omega arith))
+all-from ws (suc n) i e = ap (λ r. getD ws i 0 ∷ r) (all-from ws n (suc i) (omega arith)) ∙ sym (drop-cons ws i 0 (omega arith))
+
+-- the words of the record that 11 words mean are those words
+pub words-record : (ws : List ℕ) → length ws ≡ recordWords → wordsOf (recordOf ws) ≡ ws
+unfolding wordsOf recordOf
+words-record ws e = all-from ws 11 0 (sym e)
+
+-- and the record that its words mean is that record
+pub record-words : (rec : Record) → recordOf (wordsOf rec) ≡ rec
+unfolding wordsOf recordOf
+record-words rec = refl
+
+pub words-many : (rec : Record) → length (wordsOf rec) ≡ recordWords
+unfolding wordsOf
+words-many rec = refl

@@ -1,0 +1,126 @@
+-- What C and Rust see of a call: the paper's refusal number, 0 where the call is accepted, and every word and byte lent to it when it returns.
+-- Lengths are judged before all else: a record that is not of 11 words is refused with 2, then an out that is not of its length with 15, and both
+-- leave all memory as it came. Behind the lengths each call is the one that Rattle code makes, for the record that the words mean. In what follows
+-- ws are the record's words as they came, ts the table's. Paper: Refusal numbers.
+use Prim.Native.Nat.{ℕ}
+use mathlib.Core.Bool.{cond}
+use mathlib.Core.List.{List, [], _∷_}
+use lib.Dec.{eqb}
+use lib.ListN.{length}
+use lib.IntN.{ℤ}
+use Rattle.units.specs.declared.standing.Standing.{Standing}
+use Rattle.units.specs.Standing.{tickStanding, stampStanding}
+use Rattle.agreement.specs.declared.refusal.Refusal.the-variants.{Disagreement, ShortOutput}
+use Rattle.agreement.specs.Numbers.{refusalNumber}
+use Rattle.timeline.specs.declared.Changed.{Changed}
+use Rattle.timeline.specs.Keeping.{outcomeNumber}
+use Rattle.timeline.specs.Opening.{openAnswer, openTable}
+use Rattle.timeline.specs.Appending.{appendAnswer, appendTable}
+use Rattle.timeline.specs.Trimming.{trimAnswer, trimTable}
+use Rattle.answers.specs.Judgement.{verdictAt, verdictWhole}
+use Rattle.answers.specs.Available.{availabilityIn}
+use Rattle.answers.specs.Spans.{touchingWords}
+use Rattle.file.specs.declared.ReadAnswer.{ReadAnswer}
+use Rattle.file.specs.declared.WriteAnswer.{WriteAnswer}
+use Rattle.file.specs.Judging.{readAnswer, readTable}
+use Rattle.file.specs.Writing.{writeAnswer, outputBy, fileFor}
+use Rattle.flonterri.specs.Words.{recordWords, headWith, recordOf, wordsOf}
+use Rattle.flonterri.specs.Tells.{Tells, verdictTells, availabilityTells, touchingTells, writeTells}
+
+-- ---- guarded by lengths
+
+-- the number by the record's length, 0 where it is right
+unfoldable pub wrongRecord : ℕ → ℕ
+wrongRecord words = cond (eqb words recordWords) 0 (refusalNumber Disagreement)
+
+-- the same, and then by the length of out, which must be size
+unfoldable pub wrongLength : ℕ → ℕ → ℕ → ℕ
+wrongLength words out size = cond (eqb words recordWords) (cond (eqb out size) 0 (refusalNumber ShortOutput)) (refusalNumber Disagreement)
+
+-- by that number: 0 and the call comes to what stands behind, else all is as it came
+unfoldable pub guarded : {A : Type 0} → ℕ → (ℕ → A) → A → A
+guarded wrong came call = cond (eqb wrong 0) call (came wrong)
+
+-- ---- the calls that change
+
+-- the number, the record's words and the table's
+pub record Changes : Type 0 where
+  pub number : ℕ
+  pub words : List ℕ
+  pub table : List ℕ
+
+-- by what the call answers and the words that it leaves in the table: its record is as it came where it is refused, and zero where an opening is
+unfoldable pub changes : List ℕ → List ℕ → Changed → List ℕ → Changes
+changes ws ts x new =
+    guarded (wrongRecord (length ws)) (λ wrong. record { number = wrong; words = ws; table = ts })
+    (record { number = outcomeNumber (x .outcome); words = wordsOf (x .rec); table = new })
+
+unfoldable pub opens : List ℕ → List ℕ → ℕ → ℕ → ℕ → ℕ → ℕ → ℕ → ℕ → Changes
+opens ws ts timescale offset start duration depth first tick =
+    let h = headWith timescale offset start duration depth first in
+    changes ws ts (openAnswer h (record { 0 = tick })) (openTable h (record { 0 = tick }) ts)
+
+abbrev pub appendsBy : List ℕ → List ℕ → Standing → ℕ → ℕ → Changes
+appendsBy ws ts st d n = changes ws ts (appendAnswer (recordOf ws) ts st d n) (appendTable (recordOf ws) ts st d n)
+
+unfoldable pub appends : List ℕ → List ℕ → ℕ → ℕ → ℕ → Changes
+appends ws ts start d n = appendsBy ws ts (tickStanding (record { 0 = start }) (recordOf ws .next)) d n
+
+unfoldable pub appendsStamp : List ℕ → List ℕ → ℕ → ℕ → ℕ → Changes
+appendsStamp ws ts stamp d n = appendsBy ws ts (stampStanding (record { 0 = stamp }) (recordOf ws .next)) d n
+
+unfoldable pub trims : List ℕ → List ℕ → ℕ → Changes
+trims ws ts c = changes ws ts (trimAnswer (recordOf ws) ts (record { 0 = c })) (trimTable (recordOf ws) ts (record { 0 = c }))
+
+-- ---- the calls that look
+
+-- by what the call tells in an out of n words: refused, out is as it came
+unfoldable pub tells : {A : Type 0} → List ℕ → ℕ → (List A → Tells A) → List A → Tells A
+tells ws n call out = guarded (wrongLength (length ws) (length out) n) (λ wrong. record { number = wrong; out = out }) (call out)
+
+unfoldable pub tellsVerdict : List ℕ → List ℕ → ℕ → List ℕ → Tells ℕ
+tellsVerdict ws ts c out = tells ws 5 (verdictTells (verdictAt (recordOf ws) ts (record { 0 = c }))) out
+
+unfoldable pub tellsWhole : List ℕ → List ℕ → List ℕ → Tells ℕ
+tellsWhole ws ts out = tells ws 5 (verdictTells (verdictWhole (recordOf ws) ts)) out
+
+unfoldable pub tellsAvailability : List ℕ → List ℕ → ℕ → List ℤ → Tells ℤ
+tellsAvailability ws ts n out = tells ws 3 (availabilityTells (availabilityIn (recordOf ws) ts (record { 0 = n }))) out
+
+unfoldable pub tellsTouching : List ℕ → List ℕ → ℕ → ℕ → List ℕ → Tells ℕ
+tellsTouching ws ts a b out = tells ws 2 (touchingTells (touchingWords (recordOf ws) ts (record { 0 = a }) (record { 0 = b }))) out
+
+-- ---- the file
+
+-- reading: the number, the record's words, the table's, and out, which has the refused line, 0 where the file is accepted
+pub record Reads : Type 0 where
+  pub number : ℕ
+  pub words : List ℕ
+  pub table : List ℕ
+  pub out : List ℕ
+
+-- by what the reading answers and the words that it leaves in the table: refused, both are zero
+unfoldable pub readsBy : List ℕ → List ℕ → List ℕ → ReadAnswer → List ℕ → Reads
+readsBy ws ts out x new =
+    guarded (wrongLength (length ws) (length out) 1) (λ wrong. record { number = wrong; words = ws; table = ts; out = out })
+    (record { number = outcomeNumber (x .outcome); words = wordsOf (x .rec); table = new; out = x .line ∷ [] })
+
+unfoldable pub reads : List ℕ → List ℕ → List ℕ → List ℕ → Reads
+reads bytes ws ts out = readsBy ws ts out (readAnswer bytes ts) (readTable bytes ts)
+
+-- writing: the number, the bytes, and out, which has the length
+pub record Writes : Type 0 where
+  pub number : ℕ
+  pub bytes : List ℕ
+  pub out : List ℕ
+
+-- by what the writing answers and the bytes that it leaves
+unfoldable pub writesBy : List ℕ → List ℕ → List ℕ → WriteAnswer → List ℕ → Writes
+writesBy ws bytes out x new =
+    guarded (wrongLength (length ws) (length out) 1) (λ wrong. record { number = wrong; bytes = bytes; out = out })
+    (record { number = writeTells x out .number; bytes = new; out = writeTells x out .out })
+
+unfoldable pub writes : List ℕ → List ℕ → List ℕ → List ℕ → Writes
+writes ws ts bytes out =
+    let answer = writeAnswer (recordOf ws) ts (length bytes) in
+    writesBy ws bytes out answer (outputBy answer (fileFor (recordOf ws) ts) bytes)

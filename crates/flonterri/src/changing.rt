@@ -1,0 +1,106 @@
+// The calls that change: open, append, trim. The record and the table are the caller's words.
+ghost use mathlib.Core.Path.{_≡_};
+ghost use Rattle.flonterri.specs.Face.{opens, appends, appendsStamp, trims};
+use crate::packing::give_back;
+use crate::packing::record_of;
+use crate::packing::wrong_record;
+use units::Millis;
+use units::Number;
+use units::Stamp;
+use units::Tick;
+use units::Timescale;
+use units::WideTick;
+use window::Head;
+
+// Opens a timeline over a table.
+#[no_mangle]
+pub extern "C" fn flonterri_open(
+    record: &mut [u64],
+    table: &mut [u64],
+    timescale: u32,
+    offset: u64,
+    start: u64,
+    duration: u64,
+    depth: u64,
+    first_number: u32,
+    first_tick: u64,
+) -> u32
+    ensures { λ r. ⌜ r ≡ opens (now («record» .entry)) (now (table .entry)) timescale offset start duration depth «first_number» «first_tick» .number ⌝ }
+    ensures { λ _. ⌜ now («record» .exit) ≡ opens (now («record» .entry)) (now (table .entry)) timescale offset start duration depth «first_number» «first_tick» .words ⌝ }
+    ensures { λ _. ⌜ now (table .exit) ≡ opens (now («record» .entry)) (now (table .entry)) timescale offset start duration depth «first_number» «first_tick» .table ⌝ }
+{
+    let wrong = wrong_record(record.len());
+    if wrong != 0 {
+        return wrong;
+    }
+    let head = Head {
+        timescale: Timescale(timescale as u64),
+        offset: Tick(offset),
+        start: Millis(start),
+        duration: Millis(duration),
+        depth: Millis(depth),
+        first: Number(first_number as u64),
+    };
+    let changed = timeline::open(head, Tick(first_tick), table);
+    give_back(record, changed)
+}
+
+// Appends references whose start is a full tick.
+#[no_mangle]
+pub extern "C" fn flonterri_append(
+    record: &mut [u64],
+    table: &mut [u64],
+    start: u64,
+    duration: u32,
+    count: u32,
+) -> u32
+    ensures { λ r. ⌜ r ≡ appends (now («record» .entry)) (now (table .entry)) start duration count .number ⌝ }
+    ensures { λ _. ⌜ now («record» .exit) ≡ appends (now («record» .entry)) (now (table .entry)) start duration count .words ⌝ }
+    ensures { λ _. ⌜ now (table .exit) ≡ appends (now («record» .entry)) (now (table .entry)) start duration count .table ⌝ }
+{
+    let wrong = wrong_record(record.len());
+    if wrong != 0 {
+        return wrong;
+    }
+    let rec = record_of(record);
+    let changed = timeline::append(rec, table, WideTick(start), duration, count);
+    give_back(record, changed)
+}
+
+// Appends references whose start is a 32-bit stamp.
+#[no_mangle]
+pub extern "C" fn flonterri_append_stamp(
+    record: &mut [u64],
+    table: &mut [u64],
+    stamp: u32,
+    duration: u32,
+    count: u32,
+) -> u32
+    ensures { λ r. ⌜ r ≡ appendsStamp (now («record» .entry)) (now (table .entry)) stamp duration count .number ⌝ }
+    ensures { λ _. ⌜ now («record» .exit) ≡ appendsStamp (now («record» .entry)) (now (table .entry)) stamp duration count .words ⌝ }
+    ensures { λ _. ⌜ now (table .exit) ≡ appendsStamp (now («record» .entry)) (now (table .entry)) stamp duration count .table ⌝ }
+{
+    let wrong = wrong_record(record.len());
+    if wrong != 0 {
+        return wrong;
+    }
+    let rec = record_of(record);
+    let changed = timeline::append_stamp(rec, table, Stamp(stamp), duration, count);
+    give_back(record, changed)
+}
+
+// Raises the greatest clock and drops what is spent then.
+#[no_mangle]
+pub extern "C" fn flonterri_trim(record: &mut [u64], table: &mut [u64], clock: u64) -> u32
+    ensures { λ r. ⌜ r ≡ trims (now («record» .entry)) (now (table .entry)) clock .number ⌝ }
+    ensures { λ _. ⌜ now («record» .exit) ≡ trims (now («record» .entry)) (now (table .entry)) clock .words ⌝ }
+    ensures { λ _. ⌜ now (table .exit) ≡ trims (now («record» .entry)) (now (table .entry)) clock .table ⌝ }
+{
+    let wrong = wrong_record(record.len());
+    if wrong != 0 {
+        return wrong;
+    }
+    let rec = record_of(record);
+    let changed = timeline::trim(rec, table, Millis(clock));
+    give_back(record, changed)
+}

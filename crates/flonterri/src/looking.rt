@@ -1,0 +1,183 @@
+// The calls that look: verdicts, availability, the runs that touch a span. What is told goes into
+// the caller's `out`, which a refused call leaves as it came.
+ghost use mathlib.Core.Path.{_≡_};
+ghost use mathlib.Core.List.{[], _∷_};
+ghost use lib.ListN.{length};
+ghost use Rattle.flonterri.specs.Tells.{percentWord, verdictTells, availabilityTells, touchingTells};
+ghost use Rattle.flonterri.specs.Face.{tellsVerdict, tellsWhole, tellsAvailability, tellsTouching};
+use crate::packing::record_of;
+use crate::packing::wrong_length;
+use answers::Availability;
+use answers::Percent;
+use answers::Touching;
+use answers::Verdict;
+use answers::spans;
+use answers::times;
+use answers::verdicts;
+use units::Millis;
+use units::Number;
+use units::WideTick;
+
+const VERDICT_WORDS: usize = 5;
+
+const AVAILABILITY_WORDS: usize = 3;
+
+const TOUCHING_WORDS: usize = 2;
+
+// A percent as a word, 0 where there is none.
+fn percent_word(percent: Percent) -> u64
+    ensures { λ r. ⌜ r ≡ percentWord percent ⌝ }
+{
+    match percent {
+        Percent::Of(whole) => whole,
+        Percent::Undefined => 0,
+    }
+}
+
+// Inner, since there must be 5 words: writes over all of them.
+fn put_five(out: &mut [u64], kind: u64, needed: u64, covered: u64, lowest: u64, percent: u64)
+    requires { ⌜ length (now out) ≡ 5 ⌝ }
+    ensures { λ _. ⌜ now (out .exit) ≡ kind ∷ needed ∷ covered ∷ lowest ∷ percent ∷ [] ⌝ }
+{
+    out[0] = kind;
+    out[1] = needed;
+    out[2] = covered;
+    out[3] = lowest;
+    out[4] = percent;
+}
+
+// Inner, since there must be 3 words: writes over all of them.
+fn put_three(out: &mut [i64], kind: i64, start: i64, end: i64)
+    requires { ⌜ length (now out) ≡ 3 ⌝ }
+    ensures { λ _. ⌜ now (out .exit) ≡ kind ∷ start ∷ end ∷ [] ⌝ }
+{
+    out[0] = kind;
+    out[1] = start;
+    out[2] = end;
+}
+
+// Inner, since there must be 2 words: writes over both of them.
+fn put_two(out: &mut [u64], first: u64, last: u64)
+    requires { ⌜ length (now out) ≡ 2 ⌝ }
+    ensures { λ _. ⌜ now (out .exit) ≡ first ∷ last ∷ [] ⌝ }
+{
+    out[0] = first;
+    out[1] = last;
+}
+
+// Inner, since out must have its length: puts a verdict there, and answers its number.
+fn tell_verdict(out: &mut [u64], verdict: Verdict) -> u32
+    requires { ⌜ length (now out) ≡ 5 ⌝ }
+    ensures { λ r. ⌜ r ≡ verdictTells verdict (now (out .entry)) .number ⌝ }
+    ensures { λ _. ⌜ now (out .exit) ≡ verdictTells verdict (now (out .entry)) .out ⌝ }
+{
+    let percent = percent_word(verdict.percent());
+    match verdict {
+        Verdict::Nothing => put_five(out, 0, 0, 0, 0, percent),
+        Verdict::Complete(needed) => put_five(out, 1, needed, needed, 0, percent),
+        Verdict::Lacking(needed, covered, lowest) => {
+            put_five(out, 2, needed, covered, lowest.0, percent)
+        }
+        Verdict::Refused(why) => return why.number(),
+    }
+    0
+}
+
+// Inner, since out must have its length: puts the points there, and answers the number.
+fn tell_availability(out: &mut [i64], availability: Availability) -> u32
+    requires { ⌜ length (now out) ≡ 3 ⌝ }
+    ensures { λ r. ⌜ r ≡ availabilityTells availability (now (out .entry)) .number ⌝ }
+    ensures { λ _. ⌜ now (out .exit) ≡ availabilityTells availability (now (out .entry)) .out ⌝ }
+{
+    match availability {
+        Availability::NeverEnds(from) => put_three(out, 0, from.0, 0),
+        Availability::Ends(from, upto) => put_three(out, 1, from.0, upto.0),
+        Availability::Refused(why) => return why.number(),
+    }
+    0
+}
+
+// Inner, since out must have its length: puts the words there, and answers the number.
+fn tell_touching(out: &mut [u64], touching: Touching) -> u32
+    requires { ⌜ length (now out) ≡ 2 ⌝ }
+    ensures { λ r. ⌜ r ≡ touchingTells touching (now (out .entry)) .number ⌝ }
+    ensures { λ _. ⌜ now (out .exit) ≡ touchingTells touching (now (out .entry)) .out ⌝ }
+{
+    match touching {
+        Touching::Words(from, to) => put_two(out, from as u64, to as u64),
+        Touching::Refused(why) => return why.number(),
+    }
+    0
+}
+
+// The verdict at a clock.
+#[no_mangle]
+pub extern "C" fn flonterri_verdict(
+    record: &[u64],
+    table: &[u64],
+    clock: u64,
+    out: &mut [u64],
+) -> u32
+    ensures { λ r. ⌜ r ≡ tellsVerdict (now («record» .entry)) (now (table .entry)) clock (now (out .entry)) .number ⌝ }
+    ensures { λ _. ⌜ now (out .exit) ≡ tellsVerdict (now («record» .entry)) (now (table .entry)) clock (now (out .entry)) .out ⌝ }
+{
+    let wrong = wrong_length(record.len(), out.len(), VERDICT_WORDS);
+    if wrong != 0 {
+        return wrong;
+    }
+    let verdict = verdicts::verdict(record_of(record), table, Millis(clock));
+    tell_verdict(out, verdict)
+}
+
+// The verdict of the whole period.
+#[no_mangle]
+pub extern "C" fn flonterri_verdict_whole(record: &[u64], table: &[u64], out: &mut [u64]) -> u32
+    ensures { λ r. ⌜ r ≡ tellsWhole (now («record» .entry)) (now (table .entry)) (now (out .entry)) .number ⌝ }
+    ensures { λ _. ⌜ now (out .exit) ≡ tellsWhole (now («record» .entry)) (now (table .entry)) (now (out .entry)) .out ⌝ }
+{
+    let wrong = wrong_length(record.len(), out.len(), VERDICT_WORDS);
+    if wrong != 0 {
+        return wrong;
+    }
+    let verdict = verdicts::verdict_whole(record_of(record), table);
+    tell_verdict(out, verdict)
+}
+
+// When the reference of a number is available.
+#[no_mangle]
+pub extern "C" fn flonterri_availability(
+    record: &[u64],
+    table: &[u64],
+    number: u32,
+    out: &mut [i64],
+) -> u32
+    ensures { λ r. ⌜ r ≡ tellsAvailability (now («record» .entry)) (now (table .entry)) number (now (out .entry)) .number ⌝ }
+    ensures { λ _. ⌜ now (out .exit) ≡ tellsAvailability (now («record» .entry)) (now (table .entry)) number (now (out .entry)) .out ⌝ }
+{
+    let wrong = wrong_length(record.len(), out.len(), AVAILABILITY_WORDS);
+    if wrong != 0 {
+        return wrong;
+    }
+    let availability = times::availability(record_of(record), table, Number(number as u64));
+    tell_availability(out, availability)
+}
+
+// The words of the runs that touch the ticks from a up to b, that one excluded.
+#[no_mangle]
+pub extern "C" fn flonterri_touching(
+    record: &[u64],
+    table: &[u64],
+    a: u64,
+    b: u64,
+    out: &mut [u64],
+) -> u32
+    ensures { λ r. ⌜ r ≡ tellsTouching (now («record» .entry)) (now (table .entry)) a b (now (out .entry)) .number ⌝ }
+    ensures { λ _. ⌜ now (out .exit) ≡ tellsTouching (now («record» .entry)) (now (table .entry)) a b (now (out .entry)) .out ⌝ }
+{
+    let wrong = wrong_length(record.len(), out.len(), TOUCHING_WORDS);
+    if wrong != 0 {
+        return wrong;
+    }
+    let touching = spans::touching_words(record_of(record), table, WideTick(a), WideTick(b));
+    tell_touching(out, touching)
+}

@@ -1,0 +1,105 @@
+// A record as words, their lengths, and the numbers that calls answer.
+ghost use mathlib.Core.Path.{_≡_};
+ghost use lib.ListN.{length};
+ghost use Rattle.timeline.specs.Keeping.{outcomeNumber};
+ghost use Rattle.flonterri.specs.Words.{recordOf, wordsOf};
+ghost use Rattle.flonterri.specs.Face.{wrongRecord, wrongLength};
+use agreement::Record;
+use agreement::Refusal;
+use timeline::Changed;
+use timeline::Outcome;
+use units::Millis;
+use units::Number;
+use units::Tick;
+use units::Timescale;
+use window::Head;
+
+const RECORD_WORDS: usize = 11;
+
+// The number by the record's length: 0 where it is right.
+pub(crate) fn wrong_record(words: usize) -> u32
+    ensures { λ r. ⌜ r ≡ wrongRecord words ⌝ }
+{
+    if words != RECORD_WORDS {
+        return Refusal::Disagreement.number();
+    }
+    0
+}
+
+// The number by the record's length, then by that of out: 0 where both are right.
+pub(crate) fn wrong_length(words: usize, out: usize, size: usize) -> u32
+    ensures { λ r. ⌜ r ≡ wrongLength words out size ⌝ }
+{
+    let wrong = wrong_record(words);
+    if wrong != 0 {
+        return wrong;
+    }
+    if out != size {
+        return Refusal::ShortOutput.number();
+    }
+    0
+}
+
+// Inner, since there must be 11 words: the record that they mean.
+pub(crate) fn record_of(words: &[u64]) -> Record
+    requires { ⌜ length (now words) ≡ 11 ⌝ }
+    ensures { λ r. ⌜ r ≡ recordOf (now (words .entry)) ⌝ }
+{
+    let head = Head {
+        timescale: Timescale(words[0]),
+        offset: Tick(words[1]),
+        start: Millis(words[2]),
+        duration: Millis(words[3]),
+        depth: Millis(words[4]),
+        first: Number(words[5]),
+    };
+    let used = words[10];
+    Record {
+        head,
+        accepted: words[6],
+        dropped: words[7],
+        next: Tick(words[8]),
+        clock: Millis(words[9]),
+        used: used as usize,
+    }
+}
+
+// Inner, since there must be 11 words: writes a record over them.
+pub(crate) fn put_record(words: &mut [u64], rec: Record)
+    requires { ⌜ length (now words) ≡ 11 ⌝ }
+    ensures { λ _. ⌜ now (words .exit) ≡ wordsOf rec ⌝ }
+{
+    words[0] = rec.head.timescale.0;
+    words[1] = rec.head.offset.0;
+    words[2] = rec.head.start.0;
+    words[3] = rec.head.duration.0;
+    words[4] = rec.head.depth.0;
+    words[5] = rec.head.first.0;
+    words[6] = rec.accepted;
+    words[7] = rec.dropped;
+    words[8] = rec.next.0;
+    words[9] = rec.clock.0;
+    words[10] = rec.used as u64;
+}
+
+// The paper's number of an outcome, 0 where the call is accepted.
+pub(crate) fn number_of(outcome: Outcome) -> u32
+    ensures { λ r. ⌜ r ≡ outcomeNumber outcome ⌝ }
+{
+    match outcome {
+        Outcome::Accepted => 0,
+        Outcome::Refused(why) => why.number(),
+    }
+}
+
+// Inner, since there must be 11 words: writes back the record that a call answers, and answers the
+// number of its outcome.
+pub(crate) fn give_back(words: &mut [u64], changed: Changed) -> u32
+    requires { ⌜ length (now words) ≡ 11 ⌝ }
+    ensures { λ r. ⌜ r ≡ outcomeNumber (changed .outcome) ⌝ }
+    ensures { λ _. ⌜ now (words .exit) ≡ wordsOf (changed .rec) ⌝ }
+{
+    put_record(words, changed.rec);
+    let outcome = changed.outcome;
+    number_of(outcome)
+}

@@ -1,0 +1,156 @@
+/* Flonterri: the segment references of a DASH timeline, over words and bytes that the caller owns.
+ *
+ * Every function answers a refusal number, 0 where the call is accepted. Each takes any words and
+ * any lengths: a call is refused, never undefined, whatever a record or a table holds. That is proved
+ * for the code of this library. The proofs take these things for granted, and nothing tests them:
+ *
+ * - a pointer is valid for the length beside it, counted in elements, and aligned for their type;
+ * - it is not null, even where the length is 0;
+ * - what it points at has been written, with zeros if with nothing better;
+ * - what a call may change (a pointer without const) overlaps nothing else that the call is given;
+ * - while a call runs no other thread touches what it may change, or writes to what it reads.
+ *
+ * The limits. A timescale is 1 to 10,000,000 ticks a second. A tick is at most 2^52 - 1. Period start,
+ * duration, window depth and clock are whole milliseconds, at most 100,000,000,000. A duration of 0
+ * means that the period end is unknown, a depth of 0 that no window depth is given. A grain is
+ * 1/(1000 x timescale) second.
+ */
+#ifndef FLONTERRI_H
+#define FLONTERRI_H
+
+#include <stddef.h>
+#include <stdint.h>
+
+#ifdef __cplusplus
+extern "C" {
+#endif
+
+/* How many words a record has, and a run of the table: its start, its duration, its count. A table of
+ * n words holds n / 3 runs. */
+#define FLONTERRI_RECORD_WORDS 11
+#define FLONTERRI_RUN_WORDS 3
+
+/* How many words out must have, for each function that takes it. */
+#define FLONTERRI_VERDICT_WORDS 5
+#define FLONTERRI_AVAILABILITY_WORDS 3
+#define FLONTERRI_TOUCHING_WORDS 2
+#define FLONTERRI_READ_WORDS 1
+#define FLONTERRI_WRITE_WORDS 1
+
+/* Where each field of a record stands. */
+enum flonterri_record_word {
+    FLONTERRI_TIMESCALE = 0,
+    FLONTERRI_OFFSET = 1,
+    FLONTERRI_START = 2,
+    FLONTERRI_DURATION = 3,
+    FLONTERRI_DEPTH = 4,
+    FLONTERRI_FIRST_NUMBER = 5,
+    FLONTERRI_ACCEPTED = 6,
+    FLONTERRI_DROPPED = 7,
+    FLONTERRI_NEXT_TICK = 8,
+    FLONTERRI_GREATEST_CLOCK = 9,
+    FLONTERRI_RUNS_USED = 10
+};
+
+/* The first word of a verdict. */
+enum flonterri_verdict_kind {
+    FLONTERRI_NOTHING_NEEDED = 0,
+    FLONTERRI_COMPLETE = 1,
+    FLONTERRI_LACKING = 2
+};
+
+/* The first word of an availability. */
+enum flonterri_availability_kind {
+    FLONTERRI_NEVER_ENDS = 0,
+    FLONTERRI_ENDS = 1
+};
+
+/* What a function answers. Where several numbers apply to a call, it answers the lowest; a file's
+ * lines have an order of their own. Before all else a record that is not of 11 words is 2, and then an
+ * out that is not of its length is 15. */
+enum flonterri_refusal {
+    FLONTERRI_OK = 0,              /* the call is accepted */
+    FLONTERRI_OVER_LIMIT = 1,      /* a head field, the first tick or the offset over its limit, or timescale 0 */
+    FLONTERRI_DISAGREEMENT = 2,    /* record and table disagree, or the record is not of 11 words */
+    FLONTERRI_NOTHING_GIVEN = 3,   /* duration or count 0 */
+    FLONTERRI_GAP = 4,             /* the start lies after the next tick */
+    FLONTERRI_OVERLAP = 5,         /* the start lies before the next tick */
+    FLONTERRI_TICK_LIMIT = 6,      /* an end over 2^52 - 1 */
+    FLONTERRI_COUNT_LIMIT = 7,     /* accepted total over 2^31, or first number plus accepted over 2^32 - 1 */
+    FLONTERRI_PAST_END = 8,        /* a reference starts at or after a known period end */
+    FLONTERRI_NO_RUN_LEFT = 9,     /* a new run is needed, and the table is full */
+    FLONTERRI_CLOCK_LIMIT = 10,    /* the clock is over its limit */
+    FLONTERRI_EARLIER_CLOCK = 11,  /* a verdict's clock lies before the greatest clock */
+    FLONTERRI_NOTHING_KEPT = 12,   /* writing with no run kept */
+    FLONTERRI_NOT_KEPT = 13,       /* no kept reference has the number */
+    FLONTERRI_EMPTY_SPAN = 14,     /* a lies at or after b */
+    FLONTERRI_SHORT_OUTPUT = 15,   /* bytes shorter than the whole file, or out not of its length */
+    FLONTERRI_BAD_LINE = 16,       /* a line too short, too long, not lower-case hex, of unknown kind,
+                                      unended, missing, or extra after the end */
+    FLONTERRI_BAD_ORDER = 17,      /* a frame out of order, S after a negative r, a wrong S count */
+    FLONTERRI_NO_END_TO_REACH = 18, /* a negative r, and no known period end */
+    FLONTERRI_END_UNKNOWN = 19     /* a whole-period verdict, and no known period end */
+};
+
+/* Opens a timeline: writes the record, and zeroes the table. Refusals 1, 2. Refused with 1 it zeroes the
+ * record and leaves the table as it came; refused with 2 it changes nothing. */
+uint32_t flonterri_open(uint64_t *record, size_t record_words, uint64_t *table, size_t table_words,
+                        uint32_t timescale, uint64_t offset, uint64_t start, uint64_t duration, uint64_t depth,
+                        uint32_t first_number, uint64_t first_tick);
+
+/* Appends count references of duration ticks each, from start on, a full tick, which must be the next
+ * tick. Those that are spent already are counted as dropped and not stored. Refusals 2 to 9. Changes
+ * record and table; refused it changes nothing. */
+uint32_t flonterri_append(uint64_t *record, size_t record_words, uint64_t *table, size_t table_words,
+                          uint64_t start, uint32_t duration, uint32_t count);
+
+/* The same, where the start comes as the low 32 bits of a tick. Stamp less next tick, modulo 2^32, is 0
+ * where it joins, below 2^31 where it is a gap, else an overlap. Refusals 2 to 9. Changes record and
+ * table; refused it changes nothing. */
+uint32_t flonterri_append_stamp(uint64_t *record, size_t record_words, uint64_t *table, size_t table_words,
+                                uint32_t stamp, uint32_t duration, uint32_t count);
+
+/* Raises the greatest clock, unless it is greater already, and drops the references that are spent then.
+ * Refusals 2, 10. Changes record and table; refused it changes nothing. */
+uint32_t flonterri_trim(uint64_t *record, size_t record_words, uint64_t *table, size_t table_words, uint64_t clock);
+
+/* The verdict at a clock. out has 5 words: the kind, then how many ticks are needed, how many of them are
+ * covered, the lowest that is not, and covered x 100 / needed rounded down. What does not apply is 0; where
+ * the kind is complete, covered is needed and percent is 100. Refusals 2, 10, 11, and 15 for out. Changes
+ * out alone; refused it changes nothing. */
+uint32_t flonterri_verdict(const uint64_t *record, size_t record_words, const uint64_t *table, size_t table_words,
+                           uint64_t clock, uint64_t *out, size_t out_words);
+
+/* The verdict of the whole period, out as above. Refusals 2, 19, and 15 for out. Changes out alone; refused
+ * it changes nothing. */
+uint32_t flonterri_verdict_whole(const uint64_t *record, size_t record_words, const uint64_t *table,
+                                 size_t table_words, uint64_t *out, size_t out_words);
+
+/* When the kept reference of a number is available. out has 3 words: the kind, from which grain on, and up to
+ * which, that one excluded (0 where it never ends), in signed grains from availabilityStartTime. Refusals 2,
+ * 13, and 15 for out. Changes out alone; refused it changes nothing. */
+uint32_t flonterri_availability(const uint64_t *record, size_t record_words, const uint64_t *table,
+                                size_t table_words, uint32_t number, int64_t *out, size_t out_words);
+
+/* The runs that touch the ticks from a up to b, b excluded. out has 2 words: the place in the table of their
+ * first word, and the place past their last; both 0 if no run touches. Refusals 2, 14, and 15 for out. Changes
+ * out alone; refused it changes nothing. */
+uint32_t flonterri_touching(const uint64_t *record, size_t record_words, const uint64_t *table, size_t table_words,
+                            uint64_t a, uint64_t b, uint64_t *out, size_t out_words);
+
+/* Reads a whole file into record and table, as opening plus appends. out has 1 word: the refused line, counted
+ * from 1, or 0 where the file is accepted. Refusals 1, 3 to 9, 16, 17, 18. Refused so, it zeroes record and
+ * table and puts the line into out; refused with 2 for the record's length or 15 for out it changes nothing. */
+uint32_t flonterri_read(const uint8_t *bytes, size_t byte_count, uint64_t *record, size_t record_words,
+                        uint64_t *table, size_t table_words, uint64_t *out, size_t out_words);
+
+/* Writes the whole file of what record and table keep. out has 1 word: how many bytes were written; those
+ * behind them stay as they came. Refusals 2, 12, 15. Changes bytes and out; refused it changes nothing. */
+uint32_t flonterri_write(const uint64_t *record, size_t record_words, const uint64_t *table, size_t table_words,
+                         uint8_t *bytes, size_t byte_count, uint64_t *out, size_t out_words);
+
+#ifdef __cplusplus
+}
+#endif
+
+#endif

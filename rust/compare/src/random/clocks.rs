@@ -1,0 +1,58 @@
+//! Clocks to trim at and to ask at.
+
+use crate::generator::Generator;
+use crate::limits;
+use crate::state::State;
+
+/// A clock near the greatest one, near the moment at which something leaves the window or enters
+/// it, or at the limit.
+pub fn clock(generator: &mut Generator, state: &State) -> u64 {
+    match generator.below(40) {
+        0 => generator.pick(&[
+            limits::MILLIS + 1,
+            limits::MILLIS + 1,
+            u64::MAX,
+            u64::MAX - 1,
+        ]),
+        1 => generator.pick(&[limits::MILLIS, limits::MILLIS - 1]),
+        2 => generator.below(limits::MILLIS),
+        _ => chosen(generator, state).min(limits::MILLIS),
+    }
+}
+
+fn chosen(generator: &mut Generator, state: &State) -> u64 {
+    match generator.below(16) {
+        0 | 1 => generator.near(state.greatest_clock),
+        2 => generator.near(state.start),
+        3 => {
+            let end = state.start.saturating_add(state.duration);
+            let depth = generator.pick(&[0, state.depth]);
+            generator.near(end.saturating_add(depth))
+        }
+        4..=6 => {
+            let later = generator.below(state.depth / 4 + 40);
+            state.greatest_clock.saturating_add(later)
+        }
+        7..=9 => when_produced(generator, state),
+        _ => when_spent(generator, state),
+    }
+}
+
+/// About the moment at which a reference's end leaves the window.
+fn when_spent(generator: &mut Generator, state: &State) -> u64 {
+    if state.runs.is_empty() {
+        return generator.near(state.clock_that_passes(state.next_tick));
+    }
+    let run = generator.pick(&state.runs);
+    let ended = generator.between(0, run.count.min(1 << 40));
+    let tick = run.start.saturating_add(run.duration.saturating_mul(ended));
+    generator.near(state.clock_that_passes(tick))
+}
+
+/// About the moment at which the next tick comes.
+fn when_produced(generator: &mut Generator, state: &State) -> u64 {
+    let moment = state
+        .clock_that_passes(state.next_tick)
+        .saturating_sub(state.depth);
+    generator.near(moment)
+}

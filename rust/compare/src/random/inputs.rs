@@ -1,0 +1,103 @@
+//! Inputs of the program: a clock line and a file, good and hostile.
+
+use crate::generator::Generator;
+use crate::limits;
+use crate::random::{clocks, files, mutations};
+use crate::state::State;
+use crate::text::{clock_line, head_fields, s_fields, ALL_ONES};
+
+/// An input.
+pub fn input(generator: &mut Generator) -> Vec<u8> {
+    match generator.below(40) {
+        0 => noise(generator),
+        1 => over_long(generator),
+        2 => with_clock(generator, files::file_of_many_runs),
+        3 => with_clock(generator, files::file_of_many_lines),
+        4 => {
+            let mut input = with_clock(generator, files::file);
+            mutations::damage(generator, &mut input);
+            input
+        }
+        _ => with_clock(generator, files::file),
+    }
+}
+
+fn with_clock(generator: &mut Generator, file: fn(&mut Generator) -> Vec<u8>) -> Vec<u8> {
+    let file = file(generator);
+    let mut input = clock_line(clock_for(generator, &file));
+    if generator.one_in(40) {
+        mutations::damage(generator, &mut input);
+    }
+    input.extend(file);
+    input
+}
+
+/// A clock at which a file may have something to say, the whole period, or a limit.
+fn clock_for(generator: &mut Generator, file: &[u8]) -> u64 {
+    match generator.below(10) {
+        0 => generator.pick(&[0, limits::MILLIS, limits::MILLIS + 1, ALL_ONES - 1]),
+        1..=3 => ALL_ONES,
+        _ => clocks::clock(generator, &after_reading(file)),
+    }
+}
+
+/// About what a reading of the file leaves: enough to choose a clock by.
+fn after_reading(file: &[u8]) -> State {
+    let mut lines = file.split(|byte| *byte == b'\n');
+    let head = lines.next().and_then(head_fields);
+    let mut state = match head {
+        Some(head) => State::opened(&head),
+        None => State::of(&crate::step::Lent::anything(0)),
+    };
+    for (at, (t, d, r)) in lines.map_while(s_fields).enumerate() {
+        if at == 0 && t != ALL_ONES {
+            state.next_tick = t;
+        }
+        let count = match u64::try_from(r) {
+            Ok(repeats) => repeats + 1,
+            Err(_) => state.count_to_period_end(d).unwrap_or(1),
+        };
+        let ticks = u64::from(d).saturating_mul(count);
+        state.next_tick = state.next_tick.saturating_add(ticks);
+    }
+    state
+}
+
+/// Bytes or digits of pure chance.
+fn noise(generator: &mut Generator) -> Vec<u8> {
+    let length = generator.below(300);
+    let digits = generator.one_in(2);
+    let mut bytes: Vec<u8> = (0..length)
+        .map(|_| match digits {
+            true => generator.pick(b"0123456789abcdef\n"),
+            false => generator.number() as u8,
+        })
+        .collect();
+    if generator.one_in(2) {
+        let mut input = clock_line(0);
+        input.append(&mut bytes);
+        return input;
+    }
+    bytes
+}
+
+/// A line far longer than any frame, as the clock line or as one of the file.
+fn over_long(generator: &mut Generator) -> Vec<u8> {
+    let mut input = if generator.one_in(4) {
+        Vec::new()
+    } else {
+        with_clock(generator, files::file)
+    };
+    let length = generator.pick(&[81, 82, 83, 84, 95, 96, 97, 4_096, 70_000]);
+    let line = vec![generator.pick(b"0af\0"); length];
+    let feeds = (0..input.len()).filter(|at| input[*at] == b'\n');
+    let places: Vec<usize> = feeds.map(|at| at + 1).chain([0]).collect();
+    let at = generator.pick(&places);
+    let behind = input.split_off(at);
+    input.extend(line);
+    if generator.one_in(2) {
+        input.push(b'\n');
+    }
+    input.extend(behind);
+    input
+}

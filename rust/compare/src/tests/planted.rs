@@ -1,0 +1,317 @@
+//! Wrong sides, each wrong in one way, and whether random calls find it.
+
+use crate::calls::random_calls;
+use crate::face::{Face, Faces, PLAIN};
+use crate::generator::Generator;
+use crate::kinds;
+use crate::sequence::Sequence;
+use crate::state::word;
+use crate::tally::Tally;
+use crate::{by_hand, limits};
+
+/// Calls within which each planted fault must be found.
+const CALLS: u64 = 100_000;
+
+fn against_plain(planted: Face) -> Faces {
+    Faces {
+        judged: Face {
+            name: "planted",
+            ..planted
+        },
+        plain: PLAIN,
+    }
+}
+
+fn run(planted: Face) -> Result<u64, String> {
+    let mut tally = Tally::default();
+    random_calls(&against_plain(planted), 1, 0, CALLS, &mut tally)
+}
+
+/// The fault is found, and the report names what differs and how to see it again.
+fn found(planted: Face, difference: &str) {
+    let report = run(planted).expect_err("a planted fault");
+    assert!(
+        report.contains(&format!("planted and plain differ in {}", difference)),
+        "{}",
+        report
+    );
+    assert!(report.contains("again with --seed 1 --from "), "{}", report);
+}
+
+#[test]
+fn plain_does_not_differ_from_itself() {
+    assert!(run(PLAIN).is_ok());
+}
+
+#[test]
+fn an_opening_that_takes_an_offset_over_its_limit() {
+    let open = |record: &mut [u64],
+                table: &mut [u64],
+                timescale,
+                offset: u64,
+                start,
+                duration,
+                depth,
+                first_number,
+                first_tick| {
+        let offset = offset.min(limits::TICK);
+        (PLAIN.open)(
+            record,
+            table,
+            timescale,
+            offset,
+            start,
+            duration,
+            depth,
+            first_number,
+            first_tick,
+        )
+    };
+    found(Face { open, ..PLAIN }, "number: 0 and 1");
+}
+
+#[test]
+fn a_refused_opening_that_leaves_the_record() {
+    let open = |record: &mut [u64],
+                table: &mut [u64],
+                timescale,
+                offset,
+                start,
+                duration,
+                depth,
+                first_number,
+                first_tick| {
+        let before = record.to_vec();
+        let number = (PLAIN.open)(
+            record,
+            table,
+            timescale,
+            offset,
+            start,
+            duration,
+            depth,
+            first_number,
+            first_tick,
+        );
+        if number == 1 {
+            record.copy_from_slice(&before);
+        }
+        number
+    };
+    found(Face { open, ..PLAIN }, "record word 0");
+}
+
+#[test]
+fn an_append_that_makes_up_what_it_accepted() {
+    let append = |record: &mut [u64], table: &mut [u64], start, duration, count| {
+        let number = (PLAIN.append)(record, table, start, duration, count);
+        if number == 0 && record[word::DROPPED] > 0 {
+            record[word::ACCEPTED] += 1;
+        }
+        number
+    };
+    found(Face { append, ..PLAIN }, "record word 6");
+}
+
+#[test]
+fn an_append_that_changes_the_table_when_refused() {
+    let append = |record: &mut [u64], table: &mut [u64], start, duration, count| {
+        let number = (PLAIN.append)(record, table, start, duration, count);
+        if number == 9 && !table.is_empty() {
+            let last = table.len() - 1;
+            table[last] += 1;
+        }
+        number
+    };
+    found(Face { append, ..PLAIN }, "table word");
+}
+
+#[test]
+fn a_stamp_for_which_half_the_circle_is_a_gap() {
+    let append_stamp = |record: &mut [u64], table: &mut [u64], stamp: u32, duration, count| {
+        let next = record.get(word::NEXT_TICK).copied().unwrap_or(0) as u32;
+        match (PLAIN.append_stamp)(record, table, stamp, duration, count) {
+            5 if stamp.wrapping_sub(next) == 1 << 31 => 4,
+            number => number,
+        }
+    };
+    found(
+        Face {
+            append_stamp,
+            ..PLAIN
+        },
+        "number: 4 and 5",
+    );
+}
+
+#[test]
+fn a_trim_that_does_nothing() {
+    let trim = |record: &mut [u64], table: &mut [u64], clock| {
+        let before = (record.to_vec(), table.to_vec());
+        let number = (PLAIN.trim)(record, table, clock);
+        record.copy_from_slice(&before.0);
+        table.copy_from_slice(&before.1);
+        number
+    };
+    found(Face { trim, ..PLAIN }, "record word");
+}
+
+#[test]
+fn a_trim_that_forgets_the_next_tick_of_an_emptied_table() {
+    let trim = |record: &mut [u64], table: &mut [u64], clock| {
+        let kept = record.get(word::RUNS_USED).copied().unwrap_or(0);
+        let number = (PLAIN.trim)(record, table, clock);
+        if number == 0 && kept > 0 && record[word::RUNS_USED] == 0 {
+            record[word::NEXT_TICK] = 0;
+        }
+        number
+    };
+    found(Face { trim, ..PLAIN }, "record word 8");
+}
+
+#[test]
+fn a_verdict_that_always_says_complete() {
+    let verdict = |record: &[u64], table: &[u64], clock, out: &mut [u64]| {
+        let number = (PLAIN.verdict)(record, table, clock, out);
+        if number == 0 && out[0] == 2 {
+            out.copy_from_slice(&[1, out[1], out[1], 0, 100]);
+        }
+        number
+    };
+    found(Face { verdict, ..PLAIN }, "out word 0: 1 and 2");
+}
+
+#[test]
+fn a_percent_rounded_up() {
+    let verdict_whole = |record: &[u64], table: &[u64], out: &mut [u64]| {
+        let number = (PLAIN.verdict_whole)(record, table, out);
+        if number == 0 && out[2] * 100 % out[1] != 0 {
+            out[4] += 1;
+        }
+        number
+    };
+    found(
+        Face {
+            verdict_whole,
+            ..PLAIN
+        },
+        "out word 4",
+    );
+}
+
+#[test]
+fn an_availability_that_ends_without_the_own_duration() {
+    let availability = |record: &[u64], table: &[u64], number, out: &mut [i64]| {
+        let answer = (PLAIN.availability)(record, table, number, out);
+        if answer == 0 && out[0] == 1 {
+            out[2] -= 1000;
+        }
+        answer
+    };
+    found(
+        Face {
+            availability,
+            ..PLAIN
+        },
+        "out word 2",
+    );
+}
+
+#[test]
+fn a_span_whose_end_is_included() {
+    let touching = |record: &[u64], table: &[u64], a, b: u64, out: &mut [u64]| {
+        (PLAIN.touching)(record, table, a, b.saturating_add(1), out)
+    };
+    assert!(run(Face { touching, ..PLAIN }).is_err());
+}
+
+#[test]
+fn a_reading_that_leaves_words_when_refused() {
+    let read = |bytes: &[u8], record: &mut [u64], table: &mut [u64], out: &mut [u64]| {
+        let before = table.to_vec();
+        let number = (PLAIN.read)(bytes, record, table, out);
+        if number != 0 {
+            table.copy_from_slice(&before);
+        }
+        number
+    };
+    found(Face { read, ..PLAIN }, "table word 0");
+}
+
+#[test]
+fn a_reading_that_counts_lines_from_0() {
+    let read = |bytes: &[u8], record: &mut [u64], table: &mut [u64], out: &mut [u64]| {
+        let number = (PLAIN.read)(bytes, record, table, out);
+        if number > 15 {
+            out[0] -= 1;
+        }
+        number
+    };
+    found(Face { read, ..PLAIN }, "out word 0");
+}
+
+#[test]
+fn a_writing_that_writes_behind_the_file() {
+    let write = |record: &[u64], table: &[u64], bytes: &mut [u8], out: &mut [u64]| {
+        let number = (PLAIN.write)(record, table, bytes, out);
+        if number == 0 && bytes.len() as u64 > out[0] {
+            bytes[out[0] as usize] = 0;
+        }
+        number
+    };
+    found(Face { write, ..PLAIN }, "byte ");
+}
+
+#[test]
+fn a_side_that_panics() {
+    let trim = |_: &mut [u64], _: &mut [u64], _| panic!("planted");
+    let report = run(Face { trim, ..PLAIN }).expect_err("a panic");
+    assert!(report.contains("again with --seed 1 --from "), "{}", report);
+}
+
+#[test]
+fn the_paper_s_cases_are_held_to_the_paper_and_not_only_to_each_other() {
+    let verdict = |record: &[u64], table: &[u64], clock, out: &mut [u64]| {
+        let number = (PLAIN.verdict)(record, table, clock, out);
+        if number == 0 && out[4] == 99 {
+            out[4] = 100;
+        }
+        number
+    };
+    let wrong = Face { verdict, ..PLAIN };
+    let both_wrong = Faces {
+        judged: wrong,
+        plain: wrong,
+    };
+    let report = by_hand::judge_calls(&both_wrong).expect_err("both say 100%");
+    assert!(report.contains("by hand, B without trims"), "{}", report);
+    assert!(by_hand::judge_calls(&against_plain(PLAIN)).is_ok());
+}
+
+#[test]
+fn a_failing_sequence_is_shortened() {
+    let trim = |record: &mut [u64], table: &mut [u64], clock| match clock {
+        limits::MILLIS => 0,
+        clock => (PLAIN.trim)(record, table, clock),
+    };
+    let faces = against_plain(Face { trim, ..PLAIN });
+    let failing = (0..).map(|case| Sequence::random(&mut Generator::of_case(7, case)));
+    let failing = failing
+        .filter(|sequence| sequence.run(&faces, |_| ()).is_err())
+        .find(|sequence| sequence.steps.len() > 20)
+        .expect("a long sequence with a trim at the last clock");
+    let short = failing.shortened(&faces);
+    assert!(short.run(&faces, |_| ()).is_err());
+    assert!(short.steps.len() <= 3, "{:?}", short);
+}
+
+#[test]
+fn the_calls_of_the_gate_meet_every_kind() {
+    let mut tally = Tally::default();
+    kinds::announce_calls(&mut tally);
+    let faces = against_plain(PLAIN);
+    let seed = crate::arguments::SEED;
+    assert!(random_calls(&faces, seed, 0, CALLS, &mut tally).is_ok());
+    assert_eq!(tally.never_met(), [""; 0]);
+    assert_eq!(tally.surprises(), [""; 0]);
+}

@@ -1,0 +1,297 @@
+//! The paper's cases A, B and D, and some of C, through the safe calls.
+
+use flonterri::{
+    Availability, Grain, Head, Millis, Number, Refusal, RefusedFile, Run, Span, Stamp, Tick,
+    Timeline, Timescale, Verdict,
+};
+
+type Outcome = Result<(), Refusal>;
+
+const WORKED_FILE: &str = "\
+01000003e8000000000000000000000000000000000000000000000000000000000000271000000003
+020000000000001f4000000fa000000002
+0300000001
+";
+
+fn case_a() -> Result<Timeline, Refusal> {
+    let head = Head {
+        offset: Tick(100),
+        start: Millis(30_000),
+        duration: Millis(10_000),
+        ..Head::new(Timescale(10))
+    };
+    let mut timeline = Timeline::open(head, Tick(111), 10)?;
+    timeline.append(Tick(111), Span(40), 1)?;
+    timeline.append(Tick(151), Span(10), 1)?;
+    assert_eq!(timeline.head(), head);
+    Ok(timeline)
+}
+
+fn case_b() -> Result<Timeline, Refusal> {
+    let head = Head {
+        depth: Millis(10_000),
+        first_number: Number(1),
+        ..Head::new(Timescale(1000))
+    };
+    let mut timeline = Timeline::open(head, Tick(0), 10)?;
+    timeline.append(Tick(0), Span(4000), 5)?;
+    Ok(timeline)
+}
+
+fn case_d() -> Result<Timeline, Refusal> {
+    let head = Head {
+        duration: Millis(500),
+        ..Head::new(Timescale(3))
+    };
+    Timeline::open(head, Tick(0), 10)
+}
+
+#[test]
+fn a_next_tick_and_gap() -> Outcome {
+    let mut timeline = case_a()?;
+    assert_eq!(timeline.next_tick(), Tick(161));
+    let before = timeline.clone();
+    assert_eq!(timeline.append(Tick(170), Span(10), 1), Err(Refusal::Gap));
+    assert_eq!(timeline, before);
+    Ok(())
+}
+
+#[test]
+fn a_availability_and_whole_period() -> Outcome {
+    let timeline = case_a()?;
+    assert_eq!(
+        timeline.availability(Number(0))?,
+        Availability {
+            start: Grain(351_000),
+            end: None
+        }
+    );
+    let verdict = timeline.verdict_whole()?;
+    assert_eq!(
+        verdict,
+        Verdict::Lacking {
+            needed: 100,
+            covered: 50,
+            lowest: Tick(100),
+            percent: 50
+        }
+    );
+    assert_eq!(verdict.to_string(), "lacking 100 50/100 50%");
+    Ok(())
+}
+
+#[test]
+fn a_runs_that_touch() -> Outcome {
+    let timeline = case_a()?;
+    let first = Run {
+        start: Tick(111),
+        duration: Span(40),
+        count: 1,
+    };
+    let second = Run {
+        start: Tick(151),
+        duration: Span(10),
+        count: 1,
+    };
+    let touching =
+        |a, b| -> Result<Vec<Run>, Refusal> { Ok(timeline.touching(Tick(a)..Tick(b))?.collect()) };
+    assert_eq!(touching(0, 111)?, []);
+    assert_eq!(touching(0, 112)?, [first]);
+    assert_eq!(touching(150, 152)?, [first, second]);
+    assert_eq!(touching(151, u64::MAX)?, [second]);
+    assert_eq!(touching(161, 200)?, []);
+    assert_eq!(touching(5, 5), Err(Refusal::EmptySpan));
+    assert_eq!(timeline.runs().len(), 2);
+    assert_eq!(timeline.runs().collect::<Vec<_>>(), [first, second]);
+    Ok(())
+}
+
+#[test]
+fn b_trims() -> Outcome {
+    let mut timeline = case_b()?;
+    for (clock, dropped) in [(13_999, 0), (14_000, 1), (14_001, 1), (18_000, 2), (1, 2)] {
+        timeline.trim(Millis(clock))?;
+        assert_eq!(timeline.dropped(), dropped);
+        assert_eq!(timeline.accepted(), 5);
+        let run = Run {
+            start: Tick(dropped * 4000),
+            duration: Span(4000),
+            count: 5 - dropped,
+        };
+        assert_eq!(timeline.runs().collect::<Vec<_>>(), [run]);
+    }
+    assert_eq!(timeline.greatest_clock(), Millis(18_000));
+    assert_eq!(timeline.verdict(Millis(17_999)), Err(Refusal::EarlierClock));
+    Ok(())
+}
+
+#[test]
+fn b_verdicts() -> Outcome {
+    let timeline = case_b()?;
+    assert_eq!(timeline.verdict(Millis(0))?, Verdict::NothingNeeded);
+    let complete = timeline.verdict(Millis(14_000))?;
+    assert_eq!(complete, Verdict::Complete { needed: 10_000 });
+    assert!(complete.is_complete());
+    let lacking = timeline.verdict(Millis(20_001))?;
+    assert_eq!(lacking.to_string(), "lacking 20000 9999/10000 99%");
+    assert!(!lacking.is_complete());
+    assert_eq!(lacking.percent(), Some(99));
+    assert_eq!(
+        timeline.verdict(Millis(Millis::LARGEST.0 + 1)),
+        Err(Refusal::ClockLimit)
+    );
+    assert_eq!(timeline.verdict_whole(), Err(Refusal::EndUnknown));
+    Ok(())
+}
+
+#[test]
+fn b_availability_of_number_3() -> Outcome {
+    let timeline = case_b()?;
+    let available = timeline.availability(Number(3))?;
+    assert_eq!(available.start, Grain(12_000_000));
+    assert_eq!(available.end, Some(Grain(26_000_000)));
+    assert_eq!(timeline.availability(Number(6)), Err(Refusal::NotKept));
+    Ok(())
+}
+
+#[test]
+fn b_the_worked_file() -> Outcome {
+    let mut timeline = case_b()?;
+    timeline.trim(Millis(18_000))?;
+    assert_eq!(timeline.write()?, WORKED_FILE.as_bytes());
+
+    let mut output = [b'#'; 140];
+    let length = timeline.write_into(&mut output)?;
+    assert_eq!(length, WORKED_FILE.len());
+    assert_eq!(&output[..length], WORKED_FILE.as_bytes());
+    assert!(output[length..].iter().all(|byte| *byte == b'#'));
+    assert_eq!(
+        timeline.write_into(&mut output[..length - 1]),
+        Err(Refusal::ShortOutput)
+    );
+
+    let again = Timeline::read(WORKED_FILE.as_bytes(), 10).expect("an accepted file");
+    assert_eq!(again.table_words(), timeline.table_words());
+    assert_eq!(again.first_kept_number(), timeline.first_kept_number());
+    assert_eq!(again.next_tick(), timeline.next_tick());
+    Ok(())
+}
+
+#[test]
+fn b_emptied_and_nothing_to_write() -> Outcome {
+    let mut timeline = case_b()?;
+    timeline.trim(Millis(1_000_000))?;
+    assert_eq!(timeline.runs_used(), 0);
+    assert_eq!(timeline.next_tick(), Tick(20_000));
+    assert_eq!(timeline.first_kept_number(), Number(6));
+    assert_eq!(timeline.write(), Err(Refusal::NothingKept));
+    Ok(())
+}
+
+#[test]
+fn c_stamps() -> Outcome {
+    let head = Head::new(Timescale(1000));
+    let opened = Timeline::open(head, Tick(4_294_970_000), 10)?;
+    for (stamp, outcome) in [
+        (2704, Ok(())),
+        (2705, Err(Refusal::Gap)),
+        (2703, Err(Refusal::Overlap)),
+        (2_147_486_351, Err(Refusal::Gap)),
+        (2_147_486_352, Err(Refusal::Overlap)),
+    ] {
+        let answer = opened.clone().append_stamp(Stamp(stamp), Span(1), 1);
+        assert_eq!(answer, outcome);
+    }
+    Ok(())
+}
+
+#[test]
+fn d_a_period_end_inside_a_tick() -> Outcome {
+    let mut timeline = case_d()?;
+    assert_eq!(timeline.verdict_whole()?.to_string(), "lacking 0 0/2 0%");
+    timeline.append(Tick(0), Span(1), 1)?;
+    assert_eq!(timeline.verdict_whole()?.to_string(), "lacking 1 1/2 50%");
+    timeline.append(Tick(1), Span(1), 1)?;
+    assert_eq!(timeline.verdict_whole()?, Verdict::Complete { needed: 2 });
+    assert_eq!(timeline.append(Tick(2), Span(1), 1), Err(Refusal::PastEnd));
+    Ok(())
+}
+
+#[test]
+fn d_a_negative_r_gives_two() {
+    let file = "\
+01000000030000000000000000000000000000000000000000000001f4000000000000000000000000
+02000000000000000000000001ffffffff
+0300000001
+";
+    let timeline = Timeline::read(file.as_bytes(), 10).expect("an accepted file");
+    assert_eq!(timeline.accepted(), 2);
+    let refused = Timeline::read(file.replace("1f4", "000").as_bytes(), 10);
+    let expected = RefusedFile {
+        refusal: Refusal::NoEndToReach,
+        line: 2,
+    };
+    assert_eq!(refused, Err(expected));
+    assert_eq!(
+        expected.to_string(),
+        "line 2: refusal 18: a negative r, and the period end is unknown"
+    );
+}
+
+#[test]
+fn an_opening_over_its_limit() {
+    assert_eq!(
+        Timeline::open(Head::new(Timescale(0)), Tick(0), 10),
+        Err(Refusal::OverLimit)
+    );
+    assert_eq!(
+        Timeline::open(Head::new(Timescale(1)), Tick(Tick::LARGEST.0 + 1), 10),
+        Err(Refusal::OverLimit)
+    );
+}
+
+#[test]
+fn no_room() -> Outcome {
+    let mut timeline = Timeline::open(Head::new(Timescale(1)), Tick(0), 1)?;
+    timeline.append(Tick(0), Span(7), 3)?;
+    assert_eq!(
+        timeline.append(Tick(21), Span(8), 1),
+        Err(Refusal::NoRunLeft)
+    );
+    timeline.append(Tick(21), Span(7), 1)?;
+    let mut none = Timeline::open(Head::new(Timescale(1)), Tick(0), 0)?;
+    assert_eq!(none.append(Tick(0), Span(7), 1), Err(Refusal::NoRunLeft));
+    Ok(())
+}
+
+#[test]
+fn words_kept_elsewhere() -> Outcome {
+    let timeline = case_b()?;
+    let record = *timeline.record_words();
+    let table = timeline.table_words().to_vec();
+    assert_eq!(Timeline::of_words(record, table.clone()), timeline);
+
+    let mut damaged = record;
+    damaged[10] = u64::MAX;
+    let mut damaged = Timeline::of_words(damaged, table);
+    let before = damaged.clone();
+    assert_eq!(damaged.trim(Millis(14_000)), Err(Refusal::Disagreement));
+    assert_eq!(damaged.write(), Err(Refusal::Disagreement));
+    assert_eq!(damaged.verdict(Millis(14_000)), Err(Refusal::Disagreement));
+    assert_eq!(damaged.runs().len(), 10);
+    assert_eq!(damaged, before);
+    Ok(())
+}
+
+#[test]
+fn refusals_have_their_numbers() {
+    for (number, refusal) in (1..).zip(Refusal::ALL) {
+        assert_eq!(refusal.number(), number);
+        assert_eq!(Refusal::from_number(number), Some(refusal));
+        assert!(refusal
+            .to_string()
+            .starts_with(&format!("refusal {}: ", number)));
+    }
+    assert_eq!(Refusal::from_number(0), None);
+    assert_eq!(Refusal::from_number(20), None);
+}
