@@ -1,0 +1,13 @@
+-- Laws of the report that belong to no one function.
+pub mod Placed
+pub mod Decimals
+pub mod Worded
+pub mod Shares
+pub mod Shown
+pub mod Clocks
+pub mod Cuts
+pub mod Heard
+pub mod Told
+pub mod Lent
+pub mod Pieces
+pub mod Turns

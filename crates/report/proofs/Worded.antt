@@ -1,0 +1,85 @@
+-- The line of a reply is what its parts make, put one behind the other.
+use mathlib.Core.Path.{_≡_, refl, sym, ap, ap₂, subst, _∙_}
+use mathlib.Core.List.{List, [], _∷_, _++_, append-assoc}
+use Prim.Native.Nat.{ℕ}
+use Rattle.units.specs.declared.WideTick.{WideTick}
+use Rattle.agreement.specs.declared.refusal.Refusal.{Refusal}
+use Rattle.agreement.specs.Numbers.{refusalNumber}
+use Rattle.answers.specs.declared.Verdict.{Verdict}
+use Rattle.answers.specs.declared.Verdict.the-variants as verdict
+use Rattle.answers.specs.declared.Percent.{Percent}
+use Rattle.answers.specs.Shares.{percentOf}
+use Rattle.frames.specs.Worked.{bytesOf}
+use Rattle.report.specs.declared.Reply.{Reply}
+use Rattle.report.specs.declared.Reply.the-variants.{Judged, Refused}
+use Rattle.report.specs.Text.{decimal, percentNumber, shareText, refusedText, verdictText, textOf}
+use Rattle.report.specs.Placing.{Put}
+use Rattle.report.proofs.Placed.{put-put}
+
+-- a text put is any equal text put
+put-as : (out : List ℕ) (at : ℕ) (s t after : List ℕ) (n : ℕ) → s ≡ t → Put out at s after n → Put out at t after n
+put-as out at s t after n e p = subst (λ (x : List ℕ). Put out at x after n) e p
+
+module _ (covered needed p : ℕ) (pc : Percent) (e : pc ≡ percentOf covered needed) (f : p ≡ percentNumber pc) where
+  share-is : (text : List ℕ) → (((text ++ decimal covered) ++ 47 ∷ decimal needed) ++ 32 ∷ decimal p) ++ 37 ∷ 10 ∷ [] ≡ text ++ shareText covered needed
+  unfolding shareText bytesOf
+  share-is text =
+      ap (λ (n : ℕ). (((text ++ decimal covered) ++ 47 ∷ decimal needed) ++ 32 ∷ decimal n) ++ 37 ∷ 10 ∷ []) (f ∙ ap percentNumber e) ∙
+      simp append-assoc
+
+  pub share-put : (out text out₁ out₂ out₃ out₄ : List ℕ) (at a b c d : ℕ) → Put out at (text ++ decimal covered) out₁ a → Put out₁ a (47 ∷ decimal needed) out₂ b →
+      Put out₂ b (32 ∷ decimal p) out₃ c → Put out₃ c (37 ∷ 10 ∷ []) out₄ d → Put out at (text ++ shareText covered needed) out₄ d
+  share-put out text out₁ out₂ out₃ out₄ at a b c d p₁ p₂ p₃ p₄ =
+      put-as out at _ _ out₄ d (share-is text)
+      (put-put out at _ out₃ c
+      (put-put out at _ out₂ b (put-put out at _ out₁ a p₁ _ out₂ b p₂) _ out₃ c p₃)
+      _ out₄ d p₄)
+
+module _ (why : Refusal) (number line : ℕ) (e : number ≡ refusalNumber why) where
+  refused-is : ((114 ∷ 101 ∷ 102 ∷ 117 ∷ 115 ∷ 101 ∷ 100 ∷ 32 ∷ decimal number) ++ 32 ∷ 108 ∷ 105 ∷ 110 ∷ 101 ∷ 32 ∷ decimal line) ++ 10 ∷ [] ≡ refusedText why line
+  unfolding refusedText bytesOf
+  refused-is =
+      ap (λ (n : ℕ). ((114 ∷ 101 ∷ 102 ∷ 117 ∷ 115 ∷ 101 ∷ 100 ∷ 32 ∷ decimal n) ++ 32 ∷ 108 ∷ 105 ∷ 110 ∷ 101 ∷ 32 ∷ decimal line) ++ 10 ∷ []) e ∙
+      simp append-assoc
+
+  pub refused-put : (out out₁ out₂ out₃ : List ℕ) (a b c : ℕ) → Put out 0 (114 ∷ 101 ∷ 102 ∷ 117 ∷ 115 ∷ 101 ∷ 100 ∷ 32 ∷ decimal number) out₁ a →
+      Put out₁ a (32 ∷ 108 ∷ 105 ∷ 110 ∷ 101 ∷ 32 ∷ decimal line) out₂ b → Put out₂ b (10 ∷ []) out₃ c → Put out 0 (refusedText why line) out₃ c
+  refused-put out out₁ out₂ out₃ a b c p₁ p₂ p₃ =
+      put-as out 0 _ _ out₃ c refused-is (put-put out 0 _ out₂ b (put-put out 0 _ out₁ a p₁ _ out₂ b p₂) _ out₃ c p₃)
+
+-- ---- a verdict whose case is known
+
+module _ (v : Verdict) (out : List ℕ) where
+  pub nothing-put : v ≡ verdict.Nothing → (after : List ℕ) (n : ℕ) →
+      Put out 0 (110 ∷ 111 ∷ 116 ∷ 104 ∷ 105 ∷ 110 ∷ 103 ∷ 32 ∷ 110 ∷ 101 ∷ 101 ∷ 100 ∷ 101 ∷ 100 ∷ 10 ∷ []) after n → Put out 0 (verdictText v) after n
+  unfolding verdictText bytesOf
+  nothing-put e after n p = put-as out 0 _ _ after n (ap verdictText (sym e)) p
+
+  pub complete-put : (needed : ℕ) → v ≡ verdict.Complete needed → (after : List ℕ) (n : ℕ) →
+      Put out 0 (99 ∷ 111 ∷ 109 ∷ 112 ∷ 108 ∷ 101 ∷ 116 ∷ 101 ∷ 32 ∷ shareText needed needed) after n → Put out 0 (verdictText v) after n
+  unfolding verdictText bytesOf
+  complete-put needed e after n p = put-as out 0 _ _ after n (ap verdictText (sym e)) p
+
+  pub lacking-put : (needed covered : ℕ) (lowest : WideTick) → v ≡ verdict.Lacking needed covered lowest → (out₁ after : List ℕ) (a n : ℕ) →
+      Put out 0 (108 ∷ 97 ∷ 99 ∷ 107 ∷ 105 ∷ 110 ∷ 103 ∷ 32 ∷ decimal (lowest .0)) out₁ a → Put out₁ a (32 ∷ shareText covered needed) after n →
+      Put out 0 (verdictText v) after n
+  unfolding verdictText bytesOf
+  lacking-put needed covered lowest e out₁ after a n p q =
+      put-as out 0 _ _ after n
+      (sym (append-assoc (108 ∷ 97 ∷ 99 ∷ 107 ∷ 105 ∷ 110 ∷ 103 ∷ 32 ∷ decimal (lowest .0)) (32 ∷ []) (shareText covered needed)) ∙
+      ap verdictText (sym e))
+      (put-put out 0 _ out₁ a p _ after n q)
+
+  pub verdict-refused-put : (why : Refusal) → v ≡ verdict.Refused why → (after : List ℕ) (n : ℕ) → Put out 0 (refusedText why 0) after n → Put out 0 (verdictText v) after n
+  unfolding verdictText
+  verdict-refused-put why e after n p = put-as out 0 _ _ after n (ap verdictText (sym e)) p
+
+module _ (r : Reply) (out : List ℕ) where
+  pub judged-put : (v : Verdict) → r ≡ Judged v → (after : List ℕ) (n : ℕ) → Put out 0 (verdictText v) after n → Put out 0 (textOf r) after n
+  unfolding textOf
+  judged-put v e after n p = put-as out 0 _ _ after n (ap textOf (sym e)) p
+
+  pub reply-refused-put : (why : Refusal) (line : ℕ) → r ≡ Refused why line → (after : List ℕ) (n : ℕ) → Put out 0 (refusedText why line) after n →
+      Put out 0 (textOf r) after n
+  unfolding textOf
+  reply-refused-put why line e after n p = put-as out 0 _ _ after n (ap textOf (sym e)) p

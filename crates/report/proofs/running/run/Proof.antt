@@ -1,0 +1,18 @@
+-- `run` is safe and ends: the line that is written stands in the output.
+use borrow.Author.Needs.{needs}
+use Rattle.report.proofs.Told.{told-within, told-part}
+use Rattle.report.proofs.running.run.Statement.{statement}
+use Rattle.report.proofs.running.run.Tie as tie
+
+pub run-spec : {M : Type 1} → statement M
+run-spec =
+    tie.close
+    (tie.spec
+    (λ c. search needs)
+    (λ c κs. search needs)
+    (λ c. search needs)
+    (λ c κs. search needs)
+    (λ c. search (needs, told-within))
+    (λ c. search (needs, told-part))
+    (λ c κs. search needs)
+    (λ c. search needs))

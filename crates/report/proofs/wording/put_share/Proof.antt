@@ -1,0 +1,21 @@
+-- `put_share` meets its contract: text, covered, needed and percent stand one behind the other.
+use borrow.Author.Needs.{needs}
+use Rattle.report.proofs.Worded.{share-put}
+use Rattle.report.proofs.wording.put_share.Statement.{statement}
+use Rattle.report.proofs.wording.put_share.Tie as tie
+
+pub put-share-spec : {M : Type 1} → statement M
+put-share-spec =
+    tie.close
+    (tie.spec
+    (λ c κs. search needs)
+    (λ c κs. search needs)
+    (λ c κs. search needs)
+    (λ c. search needs)
+    (λ c κs. search needs)
+    (λ c. search needs)
+    (λ c κs. search needs)
+    (λ c. search needs)
+    (λ c κs. search needs)
+    (λ c. search needs)
+    (λ c. search (needs, share-put)))

@@ -1,0 +1,62 @@
+-- THE DEFINITION of what the program answers. The clock line is judged first, its limit included, then the file, then the verdict on what the file
+-- was read into, without trimming. A clock line that is missing or not ended is refused with 16, and its refusals stand at line 0; the file's lines
+-- are numbered from 1. The table has 3,072 words. Paper: The file (the program); Refusal numbers, and the order below the table.
+use Prim.Native.Nat.{ℕ}
+use mathlib.Core.Bool.{Bool, true, false, cond}
+use mathlib.Core.List.{List}
+use lib.ListN.{replicate}
+use Rattle.agreement.specs.declared.refusal.Refusal.the-variants.{BadLine}
+use Rattle.timeline.specs.declared.Outcome.{Outcome}
+use Rattle.timeline.specs.declared.Outcome.the-variants as outcome
+use Rattle.answers.specs.declared.Verdict.{Verdict}
+use Rattle.answers.specs.Judgement.{verdictAt, verdictWhole}
+use Rattle.file.specs.declared.ReadAnswer.{ReadAnswer}
+use Rattle.file.specs.Judging.{readAnswer, readTable}
+use Rattle.report.specs.declared.Asked.{Asked}
+use Rattle.report.specs.declared.Asked.the-variants as asked
+use Rattle.report.specs.declared.Reply.{Reply}
+use Rattle.report.specs.declared.Reply.the-variants.{Judged, Refused}
+use Rattle.report.specs.Input.{hasFeed, firstLine, behindFirst}
+use Rattle.report.specs.Clock.{askedOn}
+use Rattle.report.specs.Text.{textOf}
+
+-- what an input asks: nothing where its clock line is not ended
+unfoldable pub askedIn : List ℕ → Asked
+askedIn input = cond (hasFeed input) (askedOn (firstLine input)) asked.Unheard
+
+-- whether a verdict is asked, so that the file is read
+abbrev pub listens : Asked → Bool
+listens asked.Unheard = false
+listens (asked.At clock) = true
+listens asked.Whole = true
+listens (asked.Refused why) = false
+
+-- a file that was refused has that reply, and one that was read the verdict
+abbrev pub replyRead : Outcome → ℕ → Verdict → Reply
+replyRead outcome.Accepted line v = Judged v
+replyRead (outcome.Refused why) line v = Refused why line
+
+-- the reply by what is asked, and by what reading the file came to, in record and table
+unfoldable pub replyOn : Asked → ReadAnswer → List ℕ → Reply
+replyOn asked.Unheard read ws = Refused BadLine 0
+replyOn (asked.At clock) read ws = replyRead (read .outcome) (read .line) (verdictAt (read .rec) ws clock)
+replyOn asked.Whole read ws = replyRead (read .outcome) (read .line) (verdictWhole (read .rec) ws)
+replyOn (asked.Refused why) read ws = Refused why 0
+
+-- the reply to an input, in a table that came with the words `came`
+unfoldable pub replyIn : List ℕ → List ℕ → Reply
+replyIn came input = replyOn (askedIn input) (readAnswer (behindFirst input) came) (readTable (behindFirst input) came)
+
+-- and what it leaves in that table: what the file was read into, or the words as they came
+unfoldable pub tableIn : List ℕ → List ℕ → List ℕ
+tableIn came input = cond (listens (askedIn input)) (readTable (behindFirst input) came) came
+
+abbrev pub answerIn : List ℕ → List ℕ → List ℕ
+answerIn came input = textOf (replyIn came input)
+
+abbrev pub tableLength : ℕ
+tableLength = 3072
+
+-- from the bytes of standard input to those of standard output
+abbrev pub answer : List ℕ → List ℕ
+answer input = answerIn (replicate tableLength 0) input

@@ -1,0 +1,69 @@
+-- The answer is one line of text with its line feed: `nothing needed`, `complete 10000/10000 100%`, `lacking 20000 9999/10000 99%` or
+-- `refused 16 line 2`, numbers in decimal. A share is covered, needed and the percent, rounded down; what lacks is the lowest tick that is not
+-- covered; a refusal has its number and its line, and line 0 where it is the verdict's. Paper: The file (the program writes one line).
+use Prim.Native.Nat.{ℕ, zero, suc, _+_, _*_, _/_, _%_}
+use mathlib.Core.Path.{_≡_}
+use mathlib.Core.Bool.{cond}
+use mathlib.Core.List.{List, [], _∷_, _++_}
+use lib.Dec.{ltb}
+use Rattle.agreement.specs.declared.refusal.Refusal.{Refusal}
+use Rattle.agreement.specs.Numbers.{refusalNumber}
+use Rattle.answers.specs.declared.Verdict.{Verdict}
+use Rattle.answers.specs.declared.Verdict.the-variants as verdict
+use Rattle.answers.specs.declared.Percent.{Percent}
+use Rattle.answers.specs.declared.Percent.the-variants.{Of, Undefined}
+use Rattle.answers.specs.Shares.{percentOf}
+use Rattle.frames.specs.Worked.{bytesOf as ascii}
+use Rattle.file.specs.Lines.{lineFeed}
+use Rattle.report.specs.declared.Reply.{Reply}
+use Rattle.report.specs.declared.Reply.the-variants.{Judged, Refused}
+
+-- '0' to '9'
+abbrev pub digit : ℕ → ℕ
+digit d = 48 + d
+
+-- a number below ten is one digit; a larger one has the digits of its tenth, rounded down, and then its last digit. Each tenth takes one off the
+-- first argument, and n tenths of n are more than enough: `decimal-is` of proofs/Decimals.antt says the same with no such count
+unfoldable pub decimalBy : ℕ → ℕ → List ℕ
+decimalBy zero n = digit n ∷ []
+decimalBy (suc more) n = cond (ltb n 10) (digit n ∷ []) (decimalBy more (n / 10) ++ digit (n % 10) ∷ [])
+
+unfoldable pub decimal : ℕ → List ℕ
+decimal n = decimalBy n n
+
+-- a share that has no percent would show 0; no verdict has such a share (PercentRight, below)
+abbrev pub percentNumber : Percent → ℕ
+percentNumber (Of n) = n
+percentNumber Undefined = 0
+
+unfoldable pub shareText : ℕ → ℕ → List ℕ
+shareText covered needed =
+    decimal covered ++
+    ascii "/" ++
+    decimal needed ++
+    ascii " " ++
+    decimal (percentNumber (percentOf covered needed)) ++
+    ascii "%" ++
+    lineFeed ∷
+    []
+
+unfoldable pub refusedText : Refusal → ℕ → List ℕ
+refusedText why line = ascii "refused " ++ decimal (refusalNumber why) ++ ascii " line " ++ decimal line ++ lineFeed ∷ []
+
+unfoldable pub verdictText : Verdict → List ℕ
+verdictText verdict.Nothing = ascii "nothing needed" ++ lineFeed ∷ []
+verdictText (verdict.Complete needed) = ascii "complete " ++ shareText needed needed
+verdictText (verdict.Lacking needed covered lowest) = ascii "lacking " ++ decimal (lowest .0) ++ ascii " " ++ shareText covered needed
+verdictText (verdict.Refused why) = refusedText why 0
+
+unfoldable pub textOf : Reply → List ℕ
+textOf (Judged v) = verdictText v
+textOf (Refused why line) = refusedText why line
+
+-- what the percent that is shown must be: of a complete verdict 100, of one that lacks covered times 100 by needed, rounded down. So it is for each
+-- verdict that is asked: `percent-right-at` and `percent-right-whole` of proofs/Shares.antt
+abbrev pub PercentRight : Verdict → Type 0
+PercentRight verdict.Nothing = Unit {0}
+PercentRight (verdict.Complete needed) = percentNumber (percentOf needed needed) ≡ 100
+PercentRight (verdict.Lacking needed covered lowest) = percentNumber (percentOf covered needed) ≡ covered * 100 / needed
+PercentRight (verdict.Refused why) = Unit {0}
