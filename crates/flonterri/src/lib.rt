@@ -4,3 +4,14 @@ mod changing;
 mod filing;
 mod looking;
 mod packing;
+
+pub use changing::flonterri_append;
+pub use changing::flonterri_append_stamp;
+pub use changing::flonterri_open;
+pub use changing::flonterri_trim;
+pub use filing::flonterri_read;
+pub use filing::flonterri_write;
+pub use looking::flonterri_availability;
+pub use looking::flonterri_touching;
+pub use looking::flonterri_verdict;
+pub use looking::flonterri_verdict_whole;

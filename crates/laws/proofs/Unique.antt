@@ -1,6 +1,6 @@
 -- The contracts leave no room: those that are equations by the definition that both outcomes equal, and those that are properties by
 -- the law that the property has one answer.
-use mathlib.Core.Path.{_≡_, sym, ap, _∙_}
+use mathlib.Core.Path.{_≡_, sym, ap, ap₂, _∙_}
 use Prim.Native.Nat.{ℕ}
 use Rattle.window.proofs.Unique.{one-passed, one-needed, one-least}
 use Rattle.laws.specs.Unique.{Entries, Inner}
@@ -8,6 +8,12 @@ use Rattle.laws.specs.Unique.{Entries, Inner}
 -- what equals the same is equal
 same : {A : Type 0} {x y z : A} → x ≡ z → y ≡ z → x ≡ y
 same p q = p ∙ sym q
+
+pair : {A B : Type 0} {a c : A} {b d : B} → a ≡ c → b ≡ d → _≡_ {A = A × B} (a, b) (c, d)
+pair p q = ap₂ (λ x y. (x, y)) p q
+
+triple : {A B C : Type 0} {a d : A} {b e : B} {c f : C} → a ≡ d → b ≡ e → c ≡ f → _≡_ {A = A × B × C} (a, b, c) (d, e, f)
+triple p q r = ap₂ (λ x (y : _ × _). (x, y .0, y .1)) p (pair q r)
 
 pub entries : Entries
 entries =
@@ -31,6 +37,20 @@ entries =
       begins = record { any = λ κs a. tt; one = λ κs a x y e f p q. same p q };
       feed = record { any = λ κs a. tt; one = λ κs a x y e f p q. same (p .0) (q .0); words = λ κs a x y e f p q. same (p .1) (q .1) };
       finish = record { any = λ κs a. tt; one = λ κs a x y e f p q. same (p .0) (q .0); words = λ κs a x y e f p q. same (p .1) (q .1) };
+      desk-begins = record { any = λ κs a. tt; one = λ κs a x y e f p q. same p q };
+      desk-feed = record { any = λ κs a. tt; one = λ κs a x y e f p q. same (p .0) (q .0); words = λ κs a x y e f p q. same (p .1) (q .1) };
+      answer = record { any = λ κs a. tt; one = λ κs a x y e f p q. same (p .0) (q .0); words = λ κs a x y e f p q. pair (same (p .1 .1) (q .1 .1)) (same (p .1 .0) (q .1 .0)) };
+      answer-whole = record { any = λ κs a. tt; one = λ κs a x y e f p q. same (p .0) (q .0); words = λ κs a x y e f p q. pair (same (p .1 .1) (q .1 .1)) (same (p .1 .0) (q .1 .0)) };
+      c-open = record { any = λ κs a. tt; one = λ κs a x y e f p q. same (p .0) (q .0); words = λ κs a x y e f p q. pair (same (p .1 .0) (q .1 .0)) (same (p .1 .1) (q .1 .1)) };
+      c-append = record { any = λ κs a. tt; one = λ κs a x y e f p q. same (p .0) (q .0); words = λ κs a x y e f p q. pair (same (p .1 .0) (q .1 .0)) (same (p .1 .1) (q .1 .1)) };
+      c-append-stamp = record { any = λ κs a. tt; one = λ κs a x y e f p q. same (p .0) (q .0); words = λ κs a x y e f p q. pair (same (p .1 .0) (q .1 .0)) (same (p .1 .1) (q .1 .1)) };
+      c-trim = record { any = λ κs a. tt; one = λ κs a x y e f p q. same (p .0) (q .0); words = λ κs a x y e f p q. pair (same (p .1 .0) (q .1 .0)) (same (p .1 .1) (q .1 .1)) };
+      c-verdict = record { any = λ κs a. tt; one = λ κs a x y e f p q. same (p .0) (q .0); words = λ κs a x y e f p q. same (p .1) (q .1) };
+      c-verdict-whole = record { any = λ κs a. tt; one = λ κs a x y e f p q. same (p .0) (q .0); words = λ κs a x y e f p q. same (p .1) (q .1) };
+      c-availability = record { any = λ κs a. tt; one = λ κs a x y e f p q. same (p .0) (q .0); words = λ κs a x y e f p q. same (p .1) (q .1) };
+      c-touching = record { any = λ κs a. tt; one = λ κs a x y e f p q. same (p .0) (q .0); words = λ κs a x y e f p q. same (p .1) (q .1) };
+      c-read = record { any = λ κs a. tt; one = λ κs a x y e f p q. same (p .0) (q .0); words = λ κs a x y e f p q. triple (same (p .1 .0) (q .1 .0)) (same (p .1 .1 .0) (q .1 .1 .0)) (same (p .1 .1 .1) (q .1 .1 .1)) };
+      c-write = record { any = λ κs a. tt; one = λ κs a x y e f p q. same (p .0) (q .0); words = λ κs a x y e f p q. pair (same (p .1 .0) (q .1 .0)) (same (p .1 .1) (q .1 .1)) };
       agrees = record { any = λ κs a. tt; one = λ κs a x y e f p q. same p q };
       record-held = record { any = λ κs a. tt; one = λ κs a x y e f p q. same p q };
       counts-held = record { any = λ κs a. tt; one = λ κs a x y e f p q. same p q };

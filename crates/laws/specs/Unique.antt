@@ -18,6 +18,8 @@ use Rattle.agreement.proofs as agreement
 use Rattle.timeline.proofs as timeline
 use Rattle.answers.proofs as answers
 use Rattle.file.proofs as file
+use Rattle.report.proofs as report
+use Rattle.flonterri.proofs as flonterri
 
 module _ {n : ℕ} (ps : List (PK n)) (r : RK n) where
   -- of a function with these parameters and this result: it takes any arguments
@@ -72,6 +74,22 @@ pub record Entries : Type 0 where
   pub begins : Entry file.begin.Kinds.ps file.begin.Kinds.r file.begin.Reads.Asked file.begin.Reads.Learnt
   pub feed : Lending file.feed.Kinds.ps file.feed.Kinds.r file.feed.Reads.Asked file.feed.Reads.Learnt (λ κs e. now (e .1 .0))
   pub finish : Lending file.finish.Kinds.ps file.finish.Kinds.r file.finish.Reads.Asked file.finish.Reads.Learnt (λ κs e. now (e .1 .0))
+  -- report
+  pub desk-begins : Entry report.begin.Kinds.ps report.begin.Kinds.r report.begin.Reads.Asked report.begin.Reads.Learnt
+  pub desk-feed : Lending report.feed.Kinds.ps report.feed.Kinds.r report.feed.Reads.Asked report.feed.Reads.Learnt (λ κs e. now (e .1 .0))
+  pub answer : Lending {A = List ℕ × List ℕ} report.answer.Kinds.ps report.answer.Kinds.r report.answer.Reads.Asked report.answer.Reads.Learnt (λ κs e. (now (e .1 .0), now (e .1 .1 .0)))
+  pub answer-whole : Lending {A = List ℕ × List ℕ} report.answer_whole.Kinds.ps report.answer_whole.Kinds.r report.answer_whole.Reads.Asked report.answer_whole.Reads.Learnt (λ κs e. (now (e .1 .0), now (e .1 .1 .0)))
+  -- flonterri
+  pub c-open : Lending {A = List ℕ × List ℕ} flonterri.flonterri_open.Kinds.ps flonterri.flonterri_open.Kinds.r flonterri.flonterri_open.Reads.Asked flonterri.flonterri_open.Reads.Learnt (λ κs e. (now (e .0), now (e .1 .0)))
+  pub c-append : Lending {A = List ℕ × List ℕ} flonterri.flonterri_append.Kinds.ps flonterri.flonterri_append.Kinds.r flonterri.flonterri_append.Reads.Asked flonterri.flonterri_append.Reads.Learnt (λ κs e. (now (e .0), now (e .1 .0)))
+  pub c-append-stamp : Lending {A = List ℕ × List ℕ} flonterri.flonterri_append_stamp.Kinds.ps flonterri.flonterri_append_stamp.Kinds.r flonterri.flonterri_append_stamp.Reads.Asked flonterri.flonterri_append_stamp.Reads.Learnt (λ κs e. (now (e .0), now (e .1 .0)))
+  pub c-trim : Lending {A = List ℕ × List ℕ} flonterri.flonterri_trim.Kinds.ps flonterri.flonterri_trim.Kinds.r flonterri.flonterri_trim.Reads.Asked flonterri.flonterri_trim.Reads.Learnt (λ κs e. (now (e .0), now (e .1 .0)))
+  pub c-verdict : Lending flonterri.flonterri_verdict.Kinds.ps flonterri.flonterri_verdict.Kinds.r flonterri.flonterri_verdict.Reads.Asked flonterri.flonterri_verdict.Reads.Learnt (λ κs e. now (e .1 .1 .1 .0))
+  pub c-verdict-whole : Lending flonterri.flonterri_verdict_whole.Kinds.ps flonterri.flonterri_verdict_whole.Kinds.r flonterri.flonterri_verdict_whole.Reads.Asked flonterri.flonterri_verdict_whole.Reads.Learnt (λ κs e. now (e .1 .1 .0))
+  pub c-availability : Lending flonterri.flonterri_availability.Kinds.ps flonterri.flonterri_availability.Kinds.r flonterri.flonterri_availability.Reads.Asked flonterri.flonterri_availability.Reads.Learnt (λ κs e. now (e .1 .1 .1 .0))
+  pub c-touching : Lending flonterri.flonterri_touching.Kinds.ps flonterri.flonterri_touching.Kinds.r flonterri.flonterri_touching.Reads.Asked flonterri.flonterri_touching.Reads.Learnt (λ κs e. now (e .1 .1 .1 .1 .0))
+  pub c-read : Lending {A = List ℕ × List ℕ × List ℕ} flonterri.flonterri_read.Kinds.ps flonterri.flonterri_read.Kinds.r flonterri.flonterri_read.Reads.Asked flonterri.flonterri_read.Reads.Learnt (λ κs e. (now (e .1 .0), now (e .1 .1 .0), now (e .1 .1 .1 .0)))
+  pub c-write : Lending {A = List ℕ × List ℕ} flonterri.flonterri_write.Kinds.ps flonterri.flonterri_write.Kinds.r flonterri.flonterri_write.Reads.Asked flonterri.flonterri_write.Reads.Learnt (λ κs e. (now (e .1 .1 .0), now (e .1 .1 .1 .0)))
   -- agreement
   pub agrees : Entry agreement.Record.agrees.Kinds.ps agreement.Record.agrees.Kinds.r agreement.Record.agrees.Reads.Asked agreement.Record.agrees.Reads.Learnt
   pub record-held : Entry agreement.Record.held.Kinds.ps agreement.Record.held.Kinds.r agreement.Record.held.Reads.Asked agreement.Record.held.Reads.Learnt
