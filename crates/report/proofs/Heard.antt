@@ -1,8 +1,8 @@
 -- A desk that hears its clock line: what it holds of it, and what the line asks when it ends.
 use mathlib.Core.Path.{_≡_, refl, sym, ap, ap₂, _∙_}
 use mathlib.Core.Bool.{Bool, true, false, cond}
-use mathlib.Core.List.{List, [], _∷_, _++_, append-assoc}
-use Prim.Native.Nat.{ℕ, _+_, _-_, _≤_, _<_, min}
+use mathlib.Core.List.{List, [], _∷_, _++_}
+use Prim.Native.Nat.{ℕ, _+_, _-_, _≤_, min}
 use native.Mathlib.Omega.{arith}
 use borrow.Author.Tests.{leb-true, leb-false}
 use lib.Dec.{leb}
@@ -23,7 +23,7 @@ use Rattle.report.specs.Placing.{Put}
 use Rattle.report.specs.Input.{hasFeed, firstLine, behindFirst}
 use Rattle.report.specs.Clock.{askedOn}
 use Rattle.report.specs.Answer.{listens}
-use Rattle.report.specs.Hearing.{Standing, over, heldPart, heldWith, holding, heard, begunDesk, readOn, hearOn, fedBy, fed}
+use Rattle.report.specs.Hearing.{Standing, heldPart, heldWith, holding, heard, begunDesk, readOn, hearOn, fedBy, fed}
 use Rattle.report.proofs.Asked.{the-type}
 use Rattle.report.proofs.Cuts.{line-within, line-is, unfed, fed as has-fed, behind-is}
 

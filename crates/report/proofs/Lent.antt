@@ -23,7 +23,6 @@ use Rattle.file.specs.declared.Reading.{Reading}
 use Rattle.file.specs.declared.ReadAnswer.{ReadAnswer}
 use Rattle.file.specs.Lines.{linesOf, restOf}
 use Rattle.file.specs.Judging.{File, refused, taken, firstTick, takeS, openedBy, takeFirstS, takeHead, onNothing, onHeaded, onFrame, takeLine, takeLines, begun, readLines, stopOutcome, readOutcome, answeredBy, readAnswer, zeroed, readTable}
-use Rattle.report.specs.declared.Reply.{Reply}
 use Rattle.report.specs.Input.{behindFirst}
 use Rattle.report.specs.Answer.{askedIn, replyOn, replyIn}
 

@@ -5,13 +5,11 @@ use mathlib.Core.List.{List, [], _∷_, _++_, append-assoc, append-nil}
 use Prim.Native.Nat.{ℕ, zero, suc, _+_, _-_, _≤_}
 use native.Mathlib.Omega.{arith}
 use lib.ListN.{length, take, drop, replicate, length-append, length-take, length-replicate}
-use lib.Seq.{take-at, take-all, drop-append-add, drop-drop}
-use Rattle.units.specs.declared.Millis.{Millis}
-use Rattle.agreement.specs.declared.refusal.Refusal.{Refusal}
+use lib.Seq.{take-at, drop-append-add, drop-drop}
 use Rattle.file.specs.declared.Reader.{Reader}
 use Rattle.file.specs.declared.ReadAnswer.{ReadAnswer}
 use Rattle.file.specs.Judging.{readAnswer, readTable}
-use Rattle.file.specs.Feeding.{begunReader, fedReader, fedTable, finishAnswer, finishTable, readerAfter, tableAfter}
+use Rattle.file.specs.Feeding.{begunReader, fedReader, fedTable, readerAfter, tableAfter}
 use Rattle.file.proofs.Pieces.{fed-begun-reader, fed-begun-table, fed-on-reader, fed-on-table, fed-finish-answer, fed-finish-table}
 use Rattle.report.specs.declared.Asked.{Asked}
 use Rattle.report.specs.declared.Asked.the-variants.{Unheard, At, Whole, Refused}

@@ -1,10 +1,10 @@
 -- Texts put into an output one behind the other: a copy byte by byte puts a text, and a text put behind another puts both.
 use mathlib.Core.Path.{_≡_, refl, sym, ap, ap₂, _∙_}
-use mathlib.Core.List.{List, [], _∷_, _++_, append-assoc}
+use mathlib.Core.List.{List, _++_, append-assoc}
 use Prim.Native.Nat.{ℕ, _+_, _≤_, _<_}
 use native.Mathlib.Numerals.{add-one}
 use native.Mathlib.Omega.{arith}
-use lib.ListN.{length, getD, take, drop, set, length-append, length-drop, length-set}
+use lib.ListN.{length, getD, take, drop, set, length-append, length-set}
 use lib.Seq.{paste, paste-zero, paste-suc, length-paste-head, take-at, drop-at, take-all, drop-drop}
 use Rattle.report.specs.Placing.{Put}
 

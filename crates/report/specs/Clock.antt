@@ -10,7 +10,7 @@ use Rattle.frames.specs.declared.Frame.{Frame}
 use Rattle.frames.specs.declared.Frame.the-variants as frame
 use Rattle.frames.specs.Frames.{frameOf}
 use Rattle.report.specs.declared.Asked.{Asked}
-use Rattle.report.specs.declared.Asked.the-variants.{Unheard, At, Whole, Refused}
+use Rattle.report.specs.declared.Asked.the-variants.{At, Whole, Refused}
 
 abbrev pub allOnes : ℕ
 allOnes = 2 ^ 64 - 1

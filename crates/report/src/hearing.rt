@@ -3,7 +3,7 @@
 ghost use mathlib.Core.Path.{_≡_};
 ghost use Prim.Native.Nat.{min};
 ghost use Rattle.file.specs.Feeding.{fedReader, fedTable};
-ghost use Rattle.report.specs.Hearing.{Standing, holding, heard, begunDesk, readOn, hearOn, fed};
+ghost use Rattle.report.specs.Hearing.{holding, heard, begunDesk, readOn, hearOn, fed};
 use crate::Asked;
 use crate::Desk;
 use crate::asking;

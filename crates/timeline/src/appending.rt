@@ -12,7 +12,7 @@ ghost use Rattle.runs.specs.Encoding.{canonical};
 ghost use Rattle.runs.specs.Shape.{shaped};
 ghost use Rattle.agreement.specs.Agreement.{every, agrees};
 ghost use Rattle.timeline.specs.Keeping.{roomFor, changedBy, wordsBy};
-ghost use Rattle.timeline.specs.Appending.{Fitting, given, leftOf, roomOutcome, fitOutcome, appendOutcome, appended, appendAnswer, appendTable};
+ghost use Rattle.timeline.specs.Appending.{Fitting, given, leftOf, roomOutcome, fitOutcome, appended, appendAnswer, appendTable};
 use crate::Changed;
 use crate::accepted;
 use crate::keeping::gone_of;

@@ -10,7 +10,6 @@ use native.Mathlib.Omega.{arith}
 use borrow.Author.Needs.{needs}
 use borrow.Author.Tests.{leb-true}
 use Rattle.agreement.specs.declared.Record.{Record}
-use Rattle.agreement.specs.declared.refusal.Refusal.{Refusal}
 use Rattle.agreement.specs.declared.refusal.Refusal.the-variants.{Disagreement, NothingKept, ShortOutput}
 use Rattle.agreement.specs.Agreement.{agrees}
 use Rattle.file.specs.declared.WriteAnswer.{WriteAnswer}
