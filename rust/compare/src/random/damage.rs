@@ -1,18 +1,39 @@
-//! Words to change before a call.
+//! Words to change before a call: single ones, and several that fit together but for one rule of
+//! agreement, so that each rule is asked by itself.
 
 use crate::generator::Generator;
 use crate::limits;
-use crate::state::{word, State};
+use crate::state::{word, Run, State};
 use crate::step::{Damage, Lent, Place, RECORD_WORDS};
 
-/// One or two changed words, or a table that is emptied behind the record's back.
+/// Changed words; none where the chosen change has no place in this memory.
 pub fn damage(generator: &mut Generator, lent: &Lent) -> Vec<Damage> {
-    match generator.below(10) {
-        0 => emptied(generator, lent),
-        1 => vec![one_word(generator, lent), one_word(generator, lent)],
-        2 => run_made_longer(generator, lent),
+    let state = State::of(lent);
+    match generator.below(20) {
+        0 => emptied(generator, &state, lent.table.len()),
+        1 => run_made_longer(generator, &state),
+        2 => run_split(generator, &state, lent.table.len()),
+        3 => run_added(generator, &state, lent.table.len()),
+        4 => gap_between_runs(generator, &state),
+        5 => vec![one_word(generator, lent), one_word(generator, lent)],
         _ => vec![one_word(generator, lent)],
     }
+}
+
+fn record(at: usize, word: u64) -> Damage {
+    Damage {
+        place: Place::Record(at),
+        word,
+    }
+}
+
+/// The three words of a run.
+fn run(at: usize, run: Run) -> impl Iterator<Item = Damage> {
+    let words = [run.start, run.duration, run.count];
+    (0..3).map(move |part| Damage {
+        place: Place::Table(3 * at + part),
+        word: words[part],
+    })
 }
 
 fn one_word(generator: &mut Generator, lent: &Lent) -> Damage {
@@ -57,58 +78,110 @@ fn other_word(generator: &mut Generator, old: u64) -> u64 {
 }
 
 /// Everything dropped, and any next tick: it agrees up to the limit of ticks.
-fn emptied(generator: &mut Generator, lent: &Lent) -> Vec<Damage> {
-    let accepted = lent.record[word::ACCEPTED];
+fn emptied(generator: &mut Generator, state: &State, table_words: usize) -> Vec<Damage> {
     let next_tick = match generator.below(4) {
         0 => limits::TICK,
         1 => limits::TICK + 1,
         2 => generator.below(limits::TICK),
-        _ => lent.record[word::NEXT_TICK],
-    };
-    let record = |at, word| Damage {
-        place: Place::Record(at),
-        word,
+        _ => state.next_tick,
     };
     let mut damage = vec![
-        record(word::DROPPED, accepted),
+        record(word::DROPPED, state.accepted),
         record(word::NEXT_TICK, next_tick),
         record(word::RUNS_USED, 0),
     ];
-    damage.extend((0..lent.table.len()).map(|at| Damage {
+    damage.extend((0..table_words).map(|at| Damage {
         place: Place::Table(at),
         word: 0,
     }));
     damage
 }
 
-/// The last run a few references longer, and the record changed with it, or all of it but one
-/// word.
-fn run_made_longer(generator: &mut Generator, lent: &Lent) -> Vec<Damage> {
-    let state = State::of(lent);
+/// The last run a few references longer and the record with it, or all of it but one word.
+fn run_made_longer(generator: &mut Generator, state: &State) -> Vec<Damage> {
     let last = match state.runs.last() {
         Some(last) => *last,
-        None => return emptied(generator, lent),
+        None => return Vec::new(),
     };
     let more = generator.between(1, 3);
-    let count_word = 3 * (state.runs.len() - 1) + 2;
+    let ticks = last.duration.wrapping_mul(more);
     let mut damage = vec![
         Damage {
-            place: Place::Table(count_word),
+            place: Place::Table(3 * (state.runs.len() - 1) + 2),
             word: last.count.wrapping_add(more),
         },
-        Damage {
-            place: Place::Record(word::ACCEPTED),
-            word: state.accepted.wrapping_add(more),
-        },
-        Damage {
-            place: Place::Record(word::NEXT_TICK),
-            word: state
-                .next_tick
-                .wrapping_add(last.duration.wrapping_mul(more)),
-        },
+        record(word::ACCEPTED, state.accepted.wrapping_add(more)),
+        record(word::NEXT_TICK, state.next_tick.wrapping_add(ticks)),
     ];
     if generator.one_in(3) {
         damage.remove(generator.place(damage.len()));
+    }
+    damage
+}
+
+/// The last run as two runs of one duration: all agrees but that neighbours differ.
+fn run_split(generator: &mut Generator, state: &State, table_words: usize) -> Vec<Damage> {
+    let used = state.runs.len();
+    let last = match state.runs.last() {
+        Some(last) if last.count > 1 && used < table_words / 3 => *last,
+        _ => return Vec::new(),
+    };
+    let first = Run {
+        count: generator.between(1, last.count - 1),
+        ..last
+    };
+    let second = Run {
+        start: first.end(),
+        count: last.count - first.count,
+        ..last
+    };
+    let mut damage = vec![record(word::RUNS_USED, used as u64 + 1)];
+    damage.extend(run(used - 1, first));
+    damage.extend(run(used, second));
+    damage
+}
+
+/// One more run at the end, with no reference, with no duration, or so long that its end comes
+/// round to where it starts.
+fn run_added(generator: &mut Generator, state: &State, table_words: usize) -> Vec<Damage> {
+    let used = state.runs.len();
+    if used >= table_words / 3 {
+        return Vec::new();
+    }
+    let bits = generator.between(1, 20);
+    let (duration, count) =
+        generator.pick(&[(7, 0), (0, 1), (0, 5), (1 << (64 - bits), 1 << bits)]);
+    let added = Run {
+        start: state.next_tick,
+        duration,
+        count,
+    };
+    let mut damage = vec![
+        record(word::RUNS_USED, used as u64 + 1),
+        record(word::ACCEPTED, state.accepted.wrapping_add(count)),
+    ];
+    damage.extend(run(used, added));
+    damage
+}
+
+/// Every run behind some place, and the next tick, moved by a tick: all agrees but that runs join.
+fn gap_between_runs(generator: &mut Generator, state: &State) -> Vec<Damage> {
+    let used = state.runs.len();
+    if used < 2 {
+        return Vec::new();
+    }
+    let later = generator.one_in(2);
+    let moved = |tick: u64| match later {
+        true => tick.wrapping_add(1),
+        false => tick.wrapping_sub(1),
+    };
+    let mut damage = vec![record(word::NEXT_TICK, moved(state.next_tick))];
+    let from = generator.between(1, used as u64 - 1) as usize;
+    for at in from..used {
+        damage.push(Damage {
+            place: Place::Table(3 * at),
+            word: moved(state.runs[at].start),
+        });
     }
     damage
 }
