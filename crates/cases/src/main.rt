@@ -2,9 +2,9 @@
 // four lengths. Standard input has the steps, a line each. What must come out is stored from the
 // separate Rust one (rust/plain/examples/cases.rs), which reads the same steps.
 use agreement::Record;
+use keeping::Changed;
 use libc::STDIN_FILENO;
 use libc::STDOUT_FILENO;
-use timeline::Changed;
 use units::Millis;
 use units::Number;
 use units::Stamp;

@@ -1,9 +1,9 @@
 // What a call that changes came to, printed: the number of its outcome, the eleven words of the record,
 // the table.
 use agreement::Record;
+use keeping::Changed;
+use keeping::Outcome;
 use libc::STDOUT_FILENO;
-use timeline::Changed;
-use timeline::Outcome;
 
 pub(crate) fn put(n: u64) {
     io::write_all(STDOUT_FILENO, b" ");

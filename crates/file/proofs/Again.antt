@@ -26,12 +26,12 @@ use Rattle.runs.proofs.Joins.{join-back, references-append, references-of-run, 
 use Rattle.runs.proofs.Tables.{table-runs, table-length}
 use Rattle.agreement.specs.declared.Record.{Record}
 use Rattle.agreement.specs.Agreement.{kept, every, countsHeld, agrees}
-use Rattle.timeline.specs.declared.Outcome.the-variants as outcome
-use Rattle.timeline.specs.Keeping.{unspent}
-use Rattle.timeline.specs.Appending.{given, allOf, leftOf, roomOutcome, fitOutcome, appendOutcome, appended}
-use Rattle.timeline.proofs.Unspent.{unspent-every}
+use Rattle.keeping.specs.declared.Outcome.the-variants as outcome
+use Rattle.keeping.specs.Keeping.{unspent}
+use Rattle.keeping.specs.Joined.{given, allOf, leftOf, roomOutcome, fitOutcome, appended}
+use Rattle.keeping.proofs.Unspent.{unspent-every, every-append}
+use Rattle.timeline.specs.Appending.{appendOutcome}
 use Rattle.timeline.proofs.Judged.{stands-joins}
-use Rattle.timeline.proofs.Kept.{every-append}
 
 -- ---- parts of a list that passes a test
 

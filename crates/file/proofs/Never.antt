@@ -20,11 +20,12 @@ use Rattle.agreement.specs.declared.refusal.Refusal.{Refusal}
 use Rattle.agreement.specs.declared.refusal.Refusal.the-variants as refusal
 use Rattle.agreement.specs.Agreement.{every, countsHeld, agrees}
 use Rattle.agreement.specs.Numbers.{refusalNumber}
-use Rattle.timeline.specs.declared.Outcome.{Outcome}
-use Rattle.timeline.specs.declared.Outcome.the-variants as outcome
-use Rattle.timeline.specs.Keeping.{outcomeNumber}
+use Rattle.keeping.specs.declared.Outcome.{Outcome}
+use Rattle.keeping.specs.declared.Outcome.the-variants as outcome
+use Rattle.keeping.specs.Keeping.{outcomeNumber}
+use Rattle.keeping.specs.Joined.{given, leftOf, roomOutcome, fitOutcome, appended}
 use Rattle.timeline.specs.Opening.{freshRecord, openOutcome}
-use Rattle.timeline.specs.Appending.{given, leftOf, joining, roomOutcome, fitOutcome, appendOutcome, appended}
+use Rattle.timeline.specs.Appending.{joining, appendOutcome}
 use Rattle.timeline.proofs.Kept.{open-agrees}
 use Rattle.frames.specs.declared.Frame.{Frame}
 use Rattle.frames.specs.declared.Frame.the-variants.{Head as HeadFrame, S, End, Clock, Bad}

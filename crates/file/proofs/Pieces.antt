@@ -8,8 +8,8 @@ use lib.ListN.{length, take, replicate}
 use lib.Seq.{take-take}
 use native.Mathlib.Nat.{le-refl}
 use Rattle.agreement.specs.declared.refusal.Refusal.the-variants.{Disagreement}
-use Rattle.timeline.specs.declared.Outcome.the-variants as outcome
-use Rattle.timeline.specs.Keeping.{wordsBy}
+use Rattle.keeping.specs.declared.Outcome.the-variants as outcome
+use Rattle.keeping.specs.Keeping.{wordsBy}
 use Rattle.timeline.specs.Opening.{zeroRecord}
 use Rattle.file.specs.declared.Reading.{Reading}
 use Rattle.file.specs.declared.Reader.{Reader}

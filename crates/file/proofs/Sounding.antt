@@ -21,13 +21,15 @@ use Rattle.agreement.specs.declared.Record.{Record}
 use Rattle.agreement.specs.declared.refusal.Refusal.{Refusal}
 use Rattle.agreement.specs.declared.refusal.Refusal.the-variants as refusal
 use Rattle.agreement.specs.Agreement.{agrees}
-use Rattle.timeline.specs.declared.Outcome.{Outcome}
-use Rattle.timeline.specs.declared.Outcome.the-variants as outcome
-use Rattle.timeline.specs.Keeping.{wordsBy}
+use Rattle.keeping.specs.declared.Outcome.{Outcome}
+use Rattle.keeping.specs.declared.Outcome.the-variants as outcome
+use Rattle.keeping.specs.Keeping.{wordsBy}
+use Rattle.keeping.specs.Joined.{leftOf, fitOutcome, appended}
+use Rattle.keeping.proofs.Outcomes.{refused-not}
 use Rattle.timeline.specs.Opening.{freshRecord, openOutcome}
-use Rattle.timeline.specs.Appending.{leftOf, joining, fitOutcome, appendOutcome, appended}
+use Rattle.timeline.specs.Appending.{joining, appendOutcome}
 use Rattle.timeline.proofs.Judged.{stands-joins}
-use Rattle.timeline.proofs.Kept.{open-agrees, refused-not, taken, accepted-keeps}
+use Rattle.timeline.proofs.Kept.{open-agrees, taken, accepted-keeps}
 use Rattle.frames.specs.declared.Frame.{Frame}
 use Rattle.frames.specs.declared.Frame.the-variants.{Head as HeadFrame, S, End, Clock, Bad}
 use Rattle.frames.specs.declared.SFields.{SFields}

@@ -25,9 +25,9 @@ use Rattle.agreement.specs.declared.Record.{Record}
 use Rattle.agreement.specs.declared.refusal.Refusal.the-variants.{BadLine}
 use Rattle.agreement.specs.Agreement.{kept, every, agrees}
 use Rattle.agreement.proofs.Agreeing.{Agreeing, agreeing}
-use Rattle.timeline.specs.declared.Outcome.the-variants as outcome
-use Rattle.timeline.specs.Keeping.{wordsBy}
-use Rattle.timeline.proofs.Kept.{refused-not}
+use Rattle.keeping.specs.declared.Outcome.the-variants as outcome
+use Rattle.keeping.specs.Keeping.{wordsBy}
+use Rattle.keeping.proofs.Outcomes.{refused-not}
 use Rattle.frames.specs.declared.Frame.{Frame}
 use Rattle.frames.specs.declared.Frame.the-variants.{Head as HeadFrame, End}
 use Rattle.frames.specs.Frames.{Fits}

@@ -26,12 +26,13 @@ use Rattle.agreement.specs.declared.refusal.Refusal.{Refusal}
 use Rattle.agreement.specs.declared.refusal.Refusal.the-variants as refusal
 use Rattle.agreement.specs.Agreement.{agrees}
 use Rattle.agreement.proofs.Agreeing.{agreeing}
-use Rattle.timeline.specs.declared.Outcome.{Outcome}
-use Rattle.timeline.specs.declared.Outcome.the-variants as outcome
-use Rattle.timeline.specs.declared.Changed.{Changed}
-use Rattle.timeline.specs.Keeping.{changedBy, wordsBy}
+use Rattle.keeping.specs.declared.Outcome.{Outcome}
+use Rattle.keeping.specs.declared.Outcome.the-variants as outcome
+use Rattle.keeping.specs.declared.Changed.{Changed}
+use Rattle.keeping.specs.Keeping.{changedBy, wordsBy}
+use Rattle.keeping.specs.Joined.{leftOf, fitOutcome, appended}
 use Rattle.timeline.specs.Opening.{freshRecord, zeroRecord, openOutcome, openAnswer, openTable}
-use Rattle.timeline.specs.Appending.{leftOf, joining, fitOutcome, appendOutcome, appended}
+use Rattle.timeline.specs.Appending.{joining, appendOutcome}
 use Rattle.timeline.proofs.Judged.{no-duration, stands-gap, stands-overlap, stands-joins}
 use Rattle.timeline.proofs.Kept.{open-agrees}
 use Rattle.frames.specs.declared.SFields.{SFields}

@@ -10,11 +10,11 @@ use denote.Enum.Declared.{tagOf}
 use lib.ListN.{length, replicate}
 use Rattle.agreement.specs.declared.refusal.Refusal.{Refusal}
 use Rattle.agreement.specs.declared.refusal.Refusal.the-variants.{BadLine, Disagreement}
-use Rattle.timeline.specs.declared.Outcome.{Outcome}
-use Rattle.timeline.specs.declared.Outcome.the-variants as outcome
-use Rattle.timeline.specs.Keeping.{wordsBy}
+use Rattle.keeping.specs.declared.Outcome.{Outcome}
+use Rattle.keeping.specs.declared.Outcome.the-variants as outcome
+use Rattle.keeping.specs.Keeping.{wordsBy}
+use Rattle.keeping.proofs.Outcome.{the-type as outcome-type}
 use Rattle.timeline.specs.Opening.{zeroRecord}
-use Rattle.timeline.proofs.Outcome.{the-type as outcome-type}
 use Rattle.file.specs.declared.Stage.{Stage}
 use Rattle.file.specs.declared.Stage.the-variants.{Nothing, Headed, Open, Filled, Ended, Refused}
 use Rattle.file.specs.declared.Reading.{Reading}

@@ -11,9 +11,9 @@ use Rattle.window.specs.Limits.{headHeld}
 use Rattle.runs.specs.Shape.{zeros}
 use Rattle.agreement.specs.declared.refusal.Refusal.the-variants.{Disagreement}
 use Rattle.agreement.specs.Agreement.{agrees}
-use Rattle.timeline.specs.declared.Outcome.{Outcome}
-use Rattle.timeline.specs.declared.Outcome.the-variants as outcome
-use Rattle.timeline.specs.Keeping.{wordsBy}
+use Rattle.keeping.specs.declared.Outcome.{Outcome}
+use Rattle.keeping.specs.declared.Outcome.the-variants as outcome
+use Rattle.keeping.specs.Keeping.{wordsBy}
 use Rattle.timeline.specs.Opening.{zeroRecord}
 use Rattle.frames.specs.Frames.{longestLine}
 use Rattle.file.specs.declared.Stage.{Stage}

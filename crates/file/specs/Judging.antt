@@ -18,11 +18,12 @@ use Rattle.runs.specs.Encoding.{canonical}
 use Rattle.agreement.specs.declared.Record.{Record}
 use Rattle.agreement.specs.declared.refusal.Refusal.{Refusal}
 use Rattle.agreement.specs.declared.refusal.Refusal.the-variants.{OverLimit, NothingGiven, PastEnd, BadLine, BadOrder, NoEndToReach}
-use Rattle.timeline.specs.declared.Outcome.{Outcome}
-use Rattle.timeline.specs.declared.Outcome.the-variants as outcome
-use Rattle.timeline.specs.Keeping.{wordsBy}
+use Rattle.keeping.specs.declared.Outcome.{Outcome}
+use Rattle.keeping.specs.declared.Outcome.the-variants as outcome
+use Rattle.keeping.specs.Keeping.{wordsBy}
+use Rattle.keeping.specs.Joined.{leftOf, fitOutcome, appended}
 use Rattle.timeline.specs.Opening.{freshRecord, zeroRecord, openOutcome}
-use Rattle.timeline.specs.Appending.{leftOf, joining, fitOutcome, appendOutcome, appended}
+use Rattle.timeline.specs.Appending.{joining, appendOutcome}
 use Rattle.frames.specs.declared.Frame.{Frame}
 use Rattle.frames.specs.declared.Frame.the-variants.{Head as HeadFrame, S, End, Clock, Bad}
 use Rattle.frames.specs.declared.SFields.{SFields}

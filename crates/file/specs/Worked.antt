@@ -7,7 +7,7 @@ use Rattle.hex.specs.Digits.{digitsOf, digitOf}
 use Rattle.runs.specs.Words.{repeated}
 use Rattle.runs.specs.Encoding.{push, encode}
 use Rattle.agreement.specs.declared.refusal.Refusal.the-variants.{BadLine}
-use Rattle.timeline.specs.declared.Outcome.the-variants.{Refused}
+use Rattle.keeping.specs.declared.Outcome.the-variants.{Refused}
 use Rattle.timeline.specs.Opening.{zeroRecord}
 use Rattle.frames.specs.Fields.{fieldDigits}
 use Rattle.frames.specs.Frames.{lineOf, endedLine}

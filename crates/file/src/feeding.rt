@@ -3,7 +3,7 @@ ghost use mathlib.Core.Path.{_≡_};
 ghost use Prim.Native.Nat.{_≤_};
 ghost use lib.ListN.{drop};
 ghost use Rattle.runs.specs.Shape.{zeros};
-ghost use Rattle.timeline.specs.Keeping.{wordsBy};
+ghost use Rattle.keeping.specs.Keeping.{wordsBy};
 ghost use Rattle.timeline.specs.Opening.{zeroRecord};
 ghost use Rattle.file.specs.Judging.{stopOutcome, answeredBy, zeroed, readAnswer, readTable};
 ghost use Rattle.file.specs.Feeding.{mostLines, linesHeld, stageHeld, belongs, begunReader, fedReader, fedTable, finishAnswer, finishTable};
@@ -13,7 +13,7 @@ use crate::Reading;
 use crate::Stage;
 use crate::judge;
 use agreement::Refusal;
-use timeline::Outcome;
+use keeping::Outcome;
 
 // The longest frame has 82 digits.
 const LONGEST_HELD: usize = 83;

@@ -14,8 +14,8 @@ use agreement::Record;
 use agreement::Refusal;
 use frames::Frame;
 use frames::SFields;
-use timeline::Changed;
-use timeline::Outcome;
+use keeping::Changed;
+use keeping::Outcome;
 use units::Span;
 use units::Standing;
 use units::Tick;
@@ -106,7 +106,7 @@ fn reach_end(reading: Reading, table: &mut [u64], span: Span) -> Reading
         return refuse(reading, Refusal::PastEnd);
     }
     let count = head.least_count(rec.next, span);
-    let changed = timeline::append_joined(rec, table, span, count);
+    let changed = keeping::append_joined(rec, table, span, count);
     settle(reading, Stage::Filled, changed)
 }
 
@@ -119,7 +119,7 @@ fn append_s(reading: Reading, table: &mut [u64], s: SFields) -> Reading
     if FIRST_NEGATIVE <= s.r {
         return reach_end(reading, table, span);
     }
-    let changed = timeline::append_joined(reading.rec, table, span, s.r + 1);
+    let changed = keeping::append_joined(reading.rec, table, span, s.r + 1);
     settle(reading, Stage::Open, changed)
 }
 

@@ -2,7 +2,7 @@
 // from what a record and a table keep.
 use agreement::Record;
 use agreement::Refusal;
-use timeline::Outcome;
+use keeping::Outcome;
 
 mod feeding;
 mod judge;

@@ -2,8 +2,8 @@
 use agreement::Record;
 use file::ReadAnswer;
 use file::WriteAnswer;
+use keeping::Outcome;
 use libc::STDOUT_FILENO;
-use timeline::Outcome;
 
 fn put(text: &[u8], n: u64) {
     io::write_all(STDOUT_FILENO, text);

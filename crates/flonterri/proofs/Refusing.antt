@@ -12,9 +12,9 @@ use lib.ListN.{length, replicate}
 use Rattle.units.specs.declared.Millis.{Millis}
 use Rattle.units.specs.Standing.{tickStanding, stampStanding}
 use Rattle.agreement.specs.declared.Record.{Record}
-use Rattle.timeline.specs.declared.Outcome.{Outcome}
-use Rattle.timeline.specs.declared.Outcome.the-variants as outcome
-use Rattle.timeline.specs.Keeping.{outcomeNumber, changedBy, wordsBy}
+use Rattle.keeping.specs.declared.Outcome.{Outcome}
+use Rattle.keeping.specs.declared.Outcome.the-variants as outcome
+use Rattle.keeping.specs.Keeping.{outcomeNumber, changedBy, wordsBy}
 use Rattle.timeline.specs.Opening.{freshRecord, zeroRecord, openOutcome}
 use Rattle.timeline.specs.Appending.{appendOutcome}
 use Rattle.timeline.specs.Trimming.{trimOutcome}

@@ -12,8 +12,8 @@ use Rattle.units.specs.declared.standing.Standing.{Standing}
 use Rattle.units.specs.Standing.{tickStanding, stampStanding}
 use Rattle.agreement.specs.declared.refusal.Refusal.the-variants.{Disagreement, ShortOutput}
 use Rattle.agreement.specs.Numbers.{refusalNumber}
-use Rattle.timeline.specs.declared.Changed.{Changed}
-use Rattle.timeline.specs.Keeping.{outcomeNumber}
+use Rattle.keeping.specs.declared.Changed.{Changed}
+use Rattle.keeping.specs.Keeping.{outcomeNumber}
 use Rattle.timeline.specs.Opening.{openAnswer, openTable}
 use Rattle.timeline.specs.Appending.{appendAnswer, appendTable}
 use Rattle.timeline.specs.Trimming.{trimAnswer, trimTable}

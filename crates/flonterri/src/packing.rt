@@ -1,13 +1,13 @@
 // A record as words, their lengths, and the numbers that calls answer.
 ghost use mathlib.Core.Path.{_≡_};
 ghost use lib.ListN.{length};
-ghost use Rattle.timeline.specs.Keeping.{outcomeNumber};
+ghost use Rattle.keeping.specs.Keeping.{outcomeNumber};
 ghost use Rattle.flonterri.specs.Words.{recordOf, wordsOf};
 ghost use Rattle.flonterri.specs.Face.{wrongRecord, wrongLength};
 use agreement::Record;
 use agreement::Refusal;
-use timeline::Changed;
-use timeline::Outcome;
+use keeping::Changed;
+use keeping::Outcome;
 use units::Millis;
 use units::Number;
 use units::Tick;

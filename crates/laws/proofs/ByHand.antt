@@ -24,10 +24,11 @@ use Rattle.runs.specs.Encoding.{push, encode, tableOf}
 use Rattle.agreement.specs.declared.Record.{Record}
 use Rattle.agreement.specs.declared.refusal.Refusal.the-variants.{Disagreement, ClockLimit, EarlierClock, EndUnknown}
 use Rattle.agreement.specs.Agreement.{every, agrees, kept}
-use Rattle.timeline.specs.declared.Outcome.the-variants as outcome
-use Rattle.timeline.specs.Keeping.{unspent, changedBy, wordsBy, outcomeNumber}
+use Rattle.keeping.specs.declared.Outcome.the-variants as outcome
+use Rattle.keeping.specs.Keeping.{unspent, changedBy, wordsBy, outcomeNumber}
+use Rattle.keeping.specs.Joined.{roomOutcome, fitOutcome}
 use Rattle.timeline.specs.Opening.{openOutcome}
-use Rattle.timeline.specs.Appending.{roomOutcome, fitOutcome, appendOutcome}
+use Rattle.timeline.specs.Appending.{appendOutcome}
 use Rattle.timeline.specs.Trimming.{trimOutcome}
 use Rattle.answers.specs.declared.Verdict.{Verdict}
 use Rattle.answers.specs.declared.Verdict.the-variants.{Nothing, Complete, Lacking, Refused}

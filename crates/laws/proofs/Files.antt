@@ -22,8 +22,9 @@ use Rattle.agreement.specs.declared.refusal.Refusal.{Refusal}
 use Rattle.agreement.specs.declared.refusal.Refusal.the-variants.{Disagreement, NothingKept, ShortOutput, NothingGiven, PastEnd, NoEndToReach}
 use Rattle.agreement.specs.Agreement.{agrees, kept}
 use Rattle.agreement.proofs.Agreeing.{agree-shaped}
-use Rattle.timeline.specs.declared.Outcome.the-variants as outcome
-use Rattle.timeline.specs.Appending.{fitOutcome, appendOutcome}
+use Rattle.keeping.specs.declared.Outcome.the-variants as outcome
+use Rattle.keeping.specs.Joined.{fitOutcome}
+use Rattle.timeline.specs.Appending.{appendOutcome}
 use Rattle.frames.specs.declared.SFields.{SFields}
 use Rattle.file.specs.declared.Reading.{Reading}
 use Rattle.file.specs.declared.Stage.the-variants.{Filled, Open}

@@ -33,14 +33,16 @@ use Rattle.agreement.specs.declared.refusal.Refusal.{Refusal}
 use Rattle.agreement.specs.declared.refusal.Refusal.the-variants.{Disagreement, ClockLimit}
 use Rattle.agreement.specs.Agreement.{kept, every, agrees}
 use Rattle.agreement.proofs.Agreeing.{agree-shaped, agreeing}
-use Rattle.timeline.specs.declared.Outcome.{Outcome}
-use Rattle.timeline.specs.declared.Outcome.the-variants.{Accepted, Refused}
-use Rattle.timeline.specs.Keeping.{unspent, changedBy, wordsBy}
+use Rattle.keeping.specs.declared.Outcome.{Outcome}
+use Rattle.keeping.specs.declared.Outcome.the-variants.{Accepted, Refused}
+use Rattle.keeping.specs.Keeping.{unspent, changedBy, wordsBy}
+use Rattle.keeping.specs.Joined.{given, allOf, leftOf, appended}
+use Rattle.keeping.proofs.Unspent.{unspent-append, unspent-few, unspent-suffix}
+use Rattle.keeping.proofs.Outcomes.{past-if}
 use Rattle.timeline.specs.Opening.{freshRecord, openOutcome}
-use Rattle.timeline.specs.Appending.{given, allOf, leftOf, appendOutcome, appended}
+use Rattle.timeline.specs.Appending.{appendOutcome}
 use Rattle.timeline.specs.Trimming.{leftAt, trimOutcome, trimmed}
-use Rattle.timeline.proofs.Unspent.{unspent-append}
-use Rattle.timeline.proofs.Kept.{unspent-few, unspent-suffix, open-agrees, trim-keeps, past-if, Taken, taken, accepted-keeps}
+use Rattle.timeline.proofs.Kept.{open-agrees, trim-keeps, Taken, taken, accepted-keeps}
 use Rattle.laws.specs.Calls.{Call, byTick, byStamp, trimAt, Plain, State, opened, appendTo, after, run, ifAccepted, brought, clockIf, clockOf, allAccepted, greatest}
 use Rattle.laws.specs.History.{StillNeeded, Picked, end, kept-one, left-out, Holds, Demand3}
 

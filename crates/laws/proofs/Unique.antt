@@ -51,6 +51,8 @@ entries =
       c-touching = record { any = λ κs a. tt; one = λ κs a x y e f p q. same (p .0) (q .0); words = λ κs a x y e f p q. same (p .1) (q .1) };
       c-read = record { any = λ κs a. tt; one = λ κs a x y e f p q. same (p .0) (q .0); words = λ κs a x y e f p q. triple (same (p .1 .0) (q .1 .0)) (same (p .1 .1 .0) (q .1 .1 .0)) (same (p .1 .1 .1) (q .1 .1 .1)) };
       c-write = record { any = λ κs a. tt; one = λ κs a x y e f p q. same (p .0) (q .0); words = λ κs a x y e f p q. pair (same (p .1 .0) (q .1 .0)) (same (p .1 .1) (q .1 .1)) };
+      accepted = record { any = λ κs a. tt; one = λ κs a x y e f p q. same p q };
+      refused = record { any = λ κs a. tt; one = λ κs a x y e f p q. same p q };
       agrees = record { any = λ κs a. tt; one = λ κs a x y e f p q. same p q };
       record-held = record { any = λ κs a. tt; one = λ κs a x y e f p q. same p q };
       counts-held = record { any = λ κs a. tt; one = λ κs a x y e f p q. same p q };
@@ -82,6 +84,7 @@ inner =
     record {
       append-joined = λ κs a x y e f p q. same (p .0) (q .0);
       append-joined-words = λ κs a x y e f p q. same (p .1) (q .1);
+      gone-in = λ κs a x y e f p q. same p q;
       write-line = λ κs a x y e f p q. same (p .long) (q .long);
       write-line-words = λ κs a x y e f p q. same (p .bytes) (q .bytes);
       number = λ κs a x y e f p q. same p q;

@@ -17,9 +17,9 @@ use Rattle.window.specs.declared.Head.{Head}
 use Rattle.window.specs.declared.Needed.the-variants.{Ticks}
 use Rattle.window.specs.Window.{wholePeriod}
 use Rattle.window.specs.Ticks.{NeededTicks}
-use Rattle.timeline.specs.declared.Outcome.{Outcome}
-use Rattle.timeline.specs.declared.Outcome.the-variants.{Accepted}
-use Rattle.timeline.specs.Keeping.{outcomeNumber}
+use Rattle.keeping.specs.declared.Outcome.{Outcome}
+use Rattle.keeping.specs.declared.Outcome.the-variants.{Accepted}
+use Rattle.keeping.specs.Keeping.{outcomeNumber}
 use Rattle.timeline.specs.Opening.{openAnswer, openTable}
 use Rattle.timeline.specs.Appending.{appendAnswer}
 use Rattle.timeline.specs.Trimming.{trimAnswer}

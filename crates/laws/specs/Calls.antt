@@ -13,10 +13,11 @@ use Rattle.units.specs.Standing.{tickStanding, stampStanding}
 use Rattle.window.specs.declared.Head.{Head}
 use Rattle.window.specs.declared.Reference.{Reference}
 use Rattle.agreement.specs.declared.Record.{Record}
-use Rattle.timeline.specs.declared.Outcome.{Outcome}
-use Rattle.timeline.specs.declared.Outcome.the-variants.{Accepted, Refused}
+use Rattle.keeping.specs.declared.Outcome.{Outcome}
+use Rattle.keeping.specs.declared.Outcome.the-variants.{Accepted, Refused}
+use Rattle.keeping.specs.Joined.{given}
 use Rattle.timeline.specs.Opening.{freshRecord}
-use Rattle.timeline.specs.Appending.{given, appendOutcome, appendAnswer, appendTable}
+use Rattle.timeline.specs.Appending.{appendOutcome, appendAnswer, appendTable}
 use Rattle.timeline.specs.Trimming.{trimOutcome, trimAnswer, trimTable}
 
 -- an append by full tick or by stamp, each with a duration and a count, and a trim

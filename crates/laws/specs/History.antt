@@ -12,7 +12,7 @@ use Rattle.window.specs.declared.Head.{Head}
 use Rattle.window.specs.declared.Reference.{Reference}
 use Rattle.window.specs.Window.{needed}
 use Rattle.agreement.specs.Agreement.{kept}
-use Rattle.timeline.specs.declared.Outcome.the-variants.{Accepted}
+use Rattle.keeping.specs.declared.Outcome.the-variants.{Accepted}
 use Rattle.timeline.specs.Opening.{openOutcome}
 use Rattle.laws.specs.Calls.{Call, Plain, State, opened, run, allAccepted, greatest}
 

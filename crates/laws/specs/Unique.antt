@@ -15,6 +15,7 @@ use Rattle.hex.proofs as hex
 use Rattle.frames.proofs as frames
 use Rattle.runs.proofs as runs
 use Rattle.agreement.proofs as agreement
+use Rattle.keeping.proofs as keeping
 use Rattle.timeline.proofs as timeline
 use Rattle.answers.proofs as answers
 use Rattle.file.proofs as file
@@ -90,6 +91,9 @@ pub record Entries : Type 0 where
   pub c-touching : Lending flonterri.flonterri_touching.Kinds.ps flonterri.flonterri_touching.Kinds.r flonterri.flonterri_touching.Reads.Asked flonterri.flonterri_touching.Reads.Learnt (λ κs e. now (e .1 .1 .1 .1 .0))
   pub c-read : Lending {A = List ℕ × List ℕ × List ℕ} flonterri.flonterri_read.Kinds.ps flonterri.flonterri_read.Kinds.r flonterri.flonterri_read.Reads.Asked flonterri.flonterri_read.Reads.Learnt (λ κs e. (now (e .1 .0), now (e .1 .1 .0), now (e .1 .1 .1 .0)))
   pub c-write : Lending {A = List ℕ × List ℕ} flonterri.flonterri_write.Kinds.ps flonterri.flonterri_write.Kinds.r flonterri.flonterri_write.Reads.Asked flonterri.flonterri_write.Reads.Learnt (λ κs e. (now (e .1 .1 .0), now (e .1 .1 .1 .0)))
+  -- keeping
+  pub accepted : Entry keeping.accepted.Kinds.ps keeping.accepted.Kinds.r keeping.accepted.Reads.Asked keeping.accepted.Reads.Learnt
+  pub refused : Entry keeping.refused.Kinds.ps keeping.refused.Kinds.r keeping.refused.Reads.Asked keeping.refused.Reads.Learnt
   -- agreement
   pub agrees : Entry agreement.Record.agrees.Kinds.ps agreement.Record.agrees.Kinds.r agreement.Record.agrees.Reads.Asked agreement.Record.agrees.Reads.Learnt
   pub record-held : Entry agreement.Record.held.Kinds.ps agreement.Record.held.Kinds.r agreement.Record.held.Reads.Asked agreement.Record.held.Reads.Learnt
@@ -121,8 +125,9 @@ pub record Entries : Type 0 where
 
 -- the inner functions that are public: their callers show what they ask
 pub record Inner : Type 0 where
-  pub append-joined : OneResult timeline.append_joined.Kinds.ps timeline.append_joined.Kinds.r timeline.append_joined.Reads.Learnt
-  pub append-joined-words : OneLent timeline.append_joined.Kinds.ps timeline.append_joined.Kinds.r timeline.append_joined.Reads.Learnt (λ κs e. now (e .1 .0))
+  pub append-joined : OneResult keeping.append_joined.Kinds.ps keeping.append_joined.Kinds.r keeping.append_joined.Reads.Learnt
+  pub append-joined-words : OneLent keeping.append_joined.Kinds.ps keeping.append_joined.Kinds.r keeping.append_joined.Reads.Learnt (λ κs e. now (e .1 .0))
+  pub gone-in : OneResult keeping.gone_in.Kinds.ps keeping.gone_in.Kinds.r keeping.gone_in.Reads.Learnt
   pub write-line : OneResult frames.write_line.Kinds.ps frames.write_line.Kinds.r frames.write_line.Reads.Learnt
   pub write-line-words : OneLent frames.write_line.Kinds.ps frames.write_line.Kinds.r frames.write_line.Reads.Learnt (λ κs e. now (e .0))
   pub number : OneResult hex.number.Kinds.ps hex.number.Kinds.r hex.number.Reads.Learnt

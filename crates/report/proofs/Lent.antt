@@ -9,9 +9,9 @@ use Rattle.units.specs.declared.standing.Standing.the-variants.{Joins}
 use Rattle.window.specs.declared.Head.{Head}
 use Rattle.window.specs.Limits.{headHeld}
 use Rattle.agreement.specs.declared.refusal.Refusal.the-variants.{OverLimit, BadLine}
-use Rattle.timeline.specs.declared.Outcome.{Outcome}
-use Rattle.timeline.specs.declared.Outcome.the-variants as outcome
-use Rattle.timeline.specs.Keeping.{wordsBy}
+use Rattle.keeping.specs.declared.Outcome.{Outcome}
+use Rattle.keeping.specs.declared.Outcome.the-variants as outcome
+use Rattle.keeping.specs.Keeping.{wordsBy}
 use Rattle.timeline.specs.Opening.{freshRecord, openOutcome}
 use Rattle.frames.specs.declared.Frame.{Frame}
 use Rattle.frames.specs.declared.Frame.the-variants.{Head as HeadFrame, S, End, Clock, Bad}

@@ -21,10 +21,11 @@ use Rattle.runs.specs.Encoding.{push, encode, tableOf}
 use Rattle.agreement.specs.declared.Record.{Record}
 use Rattle.agreement.specs.declared.refusal.Refusal.the-variants.{Disagreement, ClockLimit, EarlierClock, EndUnknown}
 use Rattle.agreement.specs.Agreement.{agrees, every, kept}
-use Rattle.timeline.specs.declared.Outcome.the-variants.{Accepted}
+use Rattle.keeping.specs.declared.Outcome.the-variants.{Accepted}
+use Rattle.keeping.specs.Keeping.{unspent, wordsBy}
+use Rattle.keeping.specs.Joined.{fitOutcome, roomOutcome}
 use Rattle.timeline.specs.Opening.{openOutcome}
-use Rattle.timeline.specs.Keeping.{unspent, wordsBy}
-use Rattle.timeline.specs.Appending.{appendOutcome, fitOutcome, roomOutcome}
+use Rattle.timeline.specs.Appending.{appendOutcome}
 use Rattle.answers.specs.declared.Verdict.{Verdict}
 use Rattle.answers.specs.declared.Verdict.the-variants as verdict
 use Rattle.answers.specs.Judgement.{verdictOf, verdictAt, verdictWhole}

@@ -6,8 +6,8 @@ use mathlib.Core.Bool.{Bool, true, false, cond}
 use mathlib.Core.List.{List}
 use lib.ListN.{replicate}
 use Rattle.agreement.specs.declared.refusal.Refusal.the-variants.{BadLine}
-use Rattle.timeline.specs.declared.Outcome.{Outcome}
-use Rattle.timeline.specs.declared.Outcome.the-variants as outcome
+use Rattle.keeping.specs.declared.Outcome.{Outcome}
+use Rattle.keeping.specs.declared.Outcome.the-variants as outcome
 use Rattle.answers.specs.declared.Verdict.{Verdict}
 use Rattle.answers.specs.Judgement.{verdictAt, verdictWhole}
 use Rattle.file.specs.declared.ReadAnswer.{ReadAnswer}

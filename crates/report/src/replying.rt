@@ -13,7 +13,7 @@ use crate::wording;
 use agreement::Refusal;
 use answers::Verdict;
 use file::ReadAnswer;
-use timeline::Outcome;
+use keeping::Outcome;
 use units::Millis;
 
 // What was read is judged, unless it was refused.

@@ -1,7 +1,5 @@
 -- Laws of the calls that change, which belong to no one function.
-pub mod Outcomes
-pub mod Unspent
-pub mod Trims
-pub mod Appends
+pub mod Opens
 pub mod Judged
+pub mod Trims
 pub mod Kept

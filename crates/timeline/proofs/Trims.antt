@@ -21,10 +21,10 @@ use Rattle.agreement.specs.declared.Record.{Record}
 use Rattle.agreement.specs.declared.refusal.Refusal.the-variants.{Disagreement, ClockLimit}
 use Rattle.agreement.specs.Agreement.{kept, agrees}
 use Rattle.agreement.proofs.Agreeing.{Agreeing, agreeing}
-use Rattle.timeline.specs.declared.Outcome.the-variants.{Accepted, Refused}
-use Rattle.timeline.specs.Keeping.{goneOf}
+use Rattle.keeping.specs.declared.Outcome.the-variants.{Accepted, Refused}
+use Rattle.keeping.specs.Keeping.{goneOf}
+use Rattle.keeping.proofs.Unspent.{gone-most, unspent-is}
 use Rattle.timeline.specs.Trimming.{leftAt, trimmed, trimOutcome}
-use Rattle.timeline.proofs.Unspent.{gone-most, unspent-is}
 
 module _ (a b : Millis) where
   pub greater-second : a .0 < b .0 → b ≡ record { 0 = max (a .0) (b .0) }

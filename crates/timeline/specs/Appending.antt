@@ -1,69 +1,28 @@
--- An append gives a start, a duration and a count. It is refused with the lowest number that applies. Accepted, it counts
--- all its references; of those kept and those new, what is not spent at the greatest clock is kept, in the canonical table,
--- and the rest is counted as dropped. Paper: Append and trim; Refusal numbers, 2 to 9.
-use Prim.Native.Nat.{ℕ, _+_, _*_, _≤_}
-use mathlib.Core.Path.{_≡_}
-use mathlib.Core.Bool.{true, cond, _||_}
-use mathlib.Core.List.{List, _++_}
-use lib.Dec.{eqb, leb}
+-- An append gives a start, a duration and a count. It is refused with the lowest number that applies: here 2 to 5, and where
+-- it joins, 6 to 9 as in `keeping`'s Joined. Accepted, the table is the canonical one of what is left of those kept and those
+-- new. Paper: Append and trim; Refusal numbers, 2 to 9.
+use Prim.Native.Nat.{ℕ}
+use mathlib.Core.Bool.{cond, _||_}
+use mathlib.Core.List.{List}
+use lib.Dec.{eqb}
 use lib.ListN.{length}
 use Rattle.units.specs.declared.standing.Standing.{Standing}
 use Rattle.units.specs.declared.standing.Standing.the-variants.{Joins, Gap, Overlap}
-use Rattle.units.specs.declared.Span.{Span}
-use Rattle.units.specs.Limits.{largestTick, spanHeld}
-use Rattle.window.specs.declared.Reference.{Reference}
-use Rattle.window.specs.Place.{beforeEnd}
-use Rattle.runs.specs.Words.{repeated, capacity}
-use Rattle.runs.specs.Encoding.{runsFor, canonical}
+use Rattle.runs.specs.Encoding.{canonical}
 use Rattle.agreement.specs.declared.Record.{Record}
 use Rattle.agreement.specs.declared.refusal.Refusal.the-variants as refusal
-use Rattle.agreement.specs.Agreement.{kept, every, countsHeld, agrees}
-use Rattle.timeline.specs.declared.Outcome.{Outcome}
-use Rattle.timeline.specs.declared.Outcome.the-variants.{Accepted, Refused}
-use Rattle.timeline.specs.declared.Changed.{Changed}
-use Rattle.timeline.specs.Keeping.{unspent, keeping, changedBy, wordsBy}
-
--- n references of d ticks from the next tick on
-abbrev pub given : Record → ℕ → ℕ → List Reference
-given rec d n = repeated (rec .next .0) d n
-
--- those kept followed by those given, and what is left of them
-abbrev pub allOf : Record → List ℕ → ℕ → ℕ → List Reference
-allOf rec ws d n = kept rec ws ++ given rec d n
-
-abbrev pub leftOf : Record → List ℕ → ℕ → ℕ → List Reference
-leftOf rec ws d n = unspent (rec .head) (rec .clock .0) (allOf rec ws d n)
-
--- the record that has accepted them
-abbrev pub counting : Record → ℕ → ℕ → Record
-counting rec d n =
-    record {
-      head = rec .head;
-      accepted = rec .accepted + n;
-      dropped = rec .dropped;
-      next = record { 0 = rec .next .0 + d * n };
-      clock = rec .clock;
-      used = rec .used;
-    }
+use Rattle.agreement.specs.Agreement.{agrees}
+use Rattle.keeping.specs.declared.Outcome.{Outcome}
+use Rattle.keeping.specs.declared.Outcome.the-variants.{Accepted, Refused}
+use Rattle.keeping.specs.declared.Changed.{Changed}
+use Rattle.keeping.specs.Keeping.{changedBy, wordsBy}
+use Rattle.keeping.specs.Joined.{leftOf, fitOutcome, appended}
 
 -- what a start that does not join is refused with
 abbrev pub joining : Standing → Outcome → Outcome
 joining Joins o = o
 joining Gap o = Refused refusal.Gap
 joining Overlap o = Refused refusal.Overlap
-
--- 9: the references that are left need more runs than the table has
-unfoldable pub roomOutcome : Record → List ℕ → ℕ → ℕ → Outcome
-roomOutcome rec ws d n = cond (leb (runsFor (leftOf rec ws d n)) (capacity ws)) Accepted (Refused refusal.NoRunLeft)
-
--- 6, 7, 8: all references of the append are judged, those spent at once too
-unfoldable pub fitOutcome : Record → List ℕ → ℕ → ℕ → Outcome
-fitOutcome rec ws d n =
-    cond (leb (rec .next .0 + d * n) largestTick)
-    (cond (countsHeld (rec .head .first .0) (rec .accepted + n))
-    (cond (every (λ r. beforeEnd (rec .head) (r .start .0)) (given rec d n)) (roomOutcome rec ws d n) (Refused refusal.PastEnd))
-    (Refused refusal.CountLimit))
-    (Refused refusal.TickLimit)
 
 -- 2, 3, 4 or 5, then the rest
 unfoldable pub appendOutcome : Record → List ℕ → Standing → ℕ → ℕ → Outcome
@@ -72,20 +31,8 @@ appendOutcome rec ws st d n =
     (cond (eqb d 0 || eqb n 0) (Refused refusal.NothingGiven) (joining st (fitOutcome rec ws d n)))
     (Refused refusal.Disagreement)
 
--- the record and the table after an accepted append
-abbrev pub appended : Record → List ℕ → ℕ → ℕ → Record
-appended rec ws d n = keeping (counting rec d n) (allOf rec ws d n) (leftOf rec ws d n)
-
 abbrev pub appendAnswer : Record → List ℕ → Standing → ℕ → ℕ → Changed
 appendAnswer rec ws st d n = changedBy (appendOutcome rec ws st d n) (appended rec ws d n) rec
 
 abbrev pub appendTable : Record → List ℕ → Standing → ℕ → ℕ → List ℕ
 appendTable rec ws st d n = wordsBy (appendOutcome rec ws st d n) (canonical (length ws) (leftOf rec ws d n)) ws
-
--- an append that is judged up to room: it joins, lasts, counts, and ends within the limits
-pub record Fitting (rec : Record) (ws : List ℕ) (span : Span) (n : ℕ) : Type 0 where
-  pub agreed : agrees rec ws ≡ true
-  pub held : spanHeld span ≡ true
-  pub some : 1 ≤ n
-  pub ends : rec .next .0 + span .0 * n ≤ largestTick
-  pub counts : countsHeld (rec .head .first .0) (rec .accepted + n) ≡ true

@@ -1,4 +1,3 @@
-pub mod Keeping
 pub mod Opening
 pub mod Appending
 pub mod Trimming

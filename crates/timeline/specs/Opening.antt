@@ -11,10 +11,10 @@ use Rattle.window.specs.declared.Head.{Head}
 use Rattle.window.specs.Limits.{headHeld}
 use Rattle.agreement.specs.declared.Record.{Record}
 use Rattle.agreement.specs.declared.refusal.Refusal.the-variants.{OverLimit}
-use Rattle.timeline.specs.declared.Outcome.{Outcome}
-use Rattle.timeline.specs.declared.Outcome.the-variants.{Accepted, Refused}
-use Rattle.timeline.specs.declared.Changed.{Changed}
-use Rattle.timeline.specs.Keeping.{changedBy, wordsBy}
+use Rattle.keeping.specs.declared.Outcome.{Outcome}
+use Rattle.keeping.specs.declared.Outcome.the-variants.{Accepted, Refused}
+use Rattle.keeping.specs.declared.Changed.{Changed}
+use Rattle.keeping.specs.Keeping.{changedBy, wordsBy}
 
 -- a record that has accepted nothing yet
 abbrev pub freshRecord : Head → Tick → Record

@@ -11,10 +11,10 @@ use Rattle.runs.specs.Encoding.{canonical}
 use Rattle.agreement.specs.declared.Record.{Record}
 use Rattle.agreement.specs.declared.refusal.Refusal.the-variants.{Disagreement, ClockLimit}
 use Rattle.agreement.specs.Agreement.{kept, agrees}
-use Rattle.timeline.specs.declared.Outcome.{Outcome}
-use Rattle.timeline.specs.declared.Outcome.the-variants.{Accepted, Refused}
-use Rattle.timeline.specs.declared.Changed.{Changed}
-use Rattle.timeline.specs.Keeping.{unspent, keeping, changedBy, wordsBy}
+use Rattle.keeping.specs.declared.Outcome.{Outcome}
+use Rattle.keeping.specs.declared.Outcome.the-variants.{Accepted, Refused}
+use Rattle.keeping.specs.declared.Changed.{Changed}
+use Rattle.keeping.specs.Keeping.{unspent, keeping, changedBy, wordsBy}
 
 -- the record at the greater of its clock and c
 abbrev pub clockRaised : Record → ℕ → Record

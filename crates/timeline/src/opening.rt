@@ -1,11 +1,11 @@
 // Opening a timeline over a lent table.
 ghost use mathlib.Core.Path.{_≡_};
 ghost use Rattle.timeline.specs.Opening.{freshRecord, zeroRecord, openAnswer, openTable};
-use crate::Changed;
-use crate::accepted;
-use crate::refused;
 use agreement::Record;
 use agreement::Refusal;
+use keeping::Changed;
+use keeping::accepted;
+use keeping::refused;
 use units::Millis;
 use units::Number;
 use units::Tick;

@@ -7,12 +7,12 @@ ghost use Rattle.units.specs.Limits.{largestMillis};
 ghost use Rattle.runs.specs.Encoding.{canonical};
 ghost use Rattle.agreement.specs.Agreement.{agrees};
 ghost use Rattle.timeline.specs.Trimming.{leftAt, trimmed, trimAnswer, trimTable};
-use crate::Changed;
-use crate::accepted;
-use crate::keeping::gone_in;
-use crate::refused;
 use agreement::Record;
 use agreement::Refusal;
+use keeping::Changed;
+use keeping::accepted;
+use keeping::gone_in;
+use keeping::refused;
 use units::Millis;
 
 fn greater(a: Millis, b: Millis) -> Millis

@@ -1,7 +1,7 @@
 -- `refused_at` meets its contract.
 use mathlib.Core.Path.{ap}
 use Rattle.agreement.specs.declared.Record.{Record}
-use Rattle.timeline.specs.declared.Outcome.the-variants.{Refused}
+use Rattle.keeping.specs.declared.Outcome.the-variants.{Refused}
 use borrow.Author.Needs.{needs}
 use Rattle.file.proofs.feeding.refused_at.Statement.{statement}
 use Rattle.file.proofs.feeding.refused_at.Tie as tie

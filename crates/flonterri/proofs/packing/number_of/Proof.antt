@@ -1,7 +1,7 @@
 -- `number_of` meets its contract, case by case.
 use borrow.Author.Needs.{needs}
 use mathlib.Core.Path.{sym, ap, _∙_}
-use Rattle.timeline.specs.Keeping.{outcomeNumber}
+use Rattle.keeping.specs.Keeping.{outcomeNumber}
 use Rattle.flonterri.proofs.packing.number_of.Statement.{statement}
 use Rattle.flonterri.proofs.packing.number_of.Tie as tie
 

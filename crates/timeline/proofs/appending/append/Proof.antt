@@ -1,7 +1,7 @@
 -- `append` meets its contract: agreement first, then how the start stands.
 use borrow.Author.Needs.{needs}
 use Rattle.agreement.specs.declared.refusal.Refusal.the-variants.{Disagreement}
-use Rattle.timeline.proofs.Outcomes.{answer-refused, words-refused}
+use Rattle.keeping.proofs.Outcomes.{answer-refused, words-refused}
 use Rattle.timeline.proofs.Judged.{disagrees, agrees-so, answer-stands, words-stand}
 use Rattle.timeline.proofs.appending.append.Statement.{statement}
 use Rattle.timeline.proofs.appending.append.Tie as tie

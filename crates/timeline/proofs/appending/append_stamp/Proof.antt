@@ -1,7 +1,7 @@
 -- `append_stamp` meets its contract: agreement first, then how the start stands.
 use borrow.Author.Needs.{needs}
 use Rattle.agreement.specs.declared.refusal.Refusal.the-variants.{Disagreement}
-use Rattle.timeline.proofs.Outcomes.{answer-refused, words-refused}
+use Rattle.keeping.proofs.Outcomes.{answer-refused, words-refused}
 use Rattle.timeline.proofs.Judged.{disagrees, agrees-so, answer-stands, words-stand}
 use Rattle.timeline.proofs.appending.append_stamp.Statement.{statement}
 use Rattle.timeline.proofs.appending.append_stamp.Tie as tie

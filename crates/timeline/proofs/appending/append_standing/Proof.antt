@@ -1,8 +1,8 @@
 -- `append_standing` meets its contract, case by case.
 use borrow.Author.Needs.{needs}
 use Rattle.agreement.specs.declared.refusal.Refusal.the-variants.{NothingGiven, Gap, Overlap}
-use Rattle.timeline.proofs.Outcomes.{answer-refused, words-refused}
-use Rattle.timeline.proofs.Judged.{answer-as, words-as, no-duration, no-count, stands-gap, stands-overlap, stands-joins, duration-held, count-some}
+use Rattle.keeping.proofs.Outcomes.{answer-refused, words-refused, answer-as, words-as}
+use Rattle.timeline.proofs.Judged.{no-duration, no-count, stands-gap, stands-overlap, stands-joins, duration-held, count-some}
 use Rattle.timeline.proofs.appending.append_standing.Statement.{statement}
 use Rattle.timeline.proofs.appending.append_standing.Tie as tie
 

@@ -1,7 +1,8 @@
 -- `open` meets its contract, way by way.
 use borrow.Author.Needs.{needs}
 use Rattle.agreement.specs.declared.refusal.Refusal.the-variants.{OverLimit}
-use Rattle.timeline.proofs.Outcomes.{answer-refused, answer-accepted, words-refused, words-accepted, open-head, open-tick, open-accepted}
+use Rattle.keeping.proofs.Outcomes.{answer-refused, answer-accepted, words-refused, words-accepted}
+use Rattle.timeline.proofs.Opens.{open-head, open-tick, open-accepted}
 use Rattle.timeline.proofs.opening.open.Statement.{statement}
 use Rattle.timeline.proofs.opening.open.Tie as tie
 

@@ -1,7 +1,7 @@
 -- `trim` meets its contract, way by way.
 use borrow.Author.Needs.{needs}
 use Rattle.agreement.specs.declared.refusal.Refusal.the-variants.{Disagreement, ClockLimit}
-use Rattle.timeline.proofs.Outcomes.{answer-refused, answer-accepted, words-refused, words-accepted}
+use Rattle.keeping.proofs.Outcomes.{answer-refused, answer-accepted, words-refused, words-accepted}
 use Rattle.timeline.proofs.Trims.{trim-disagrees, trim-agrees, trim-over, trim-accepted, trim-clock}
 use Rattle.timeline.proofs.trimming.trim.Statement.{statement}
 use Rattle.timeline.proofs.trimming.trim.Tie as tie

@@ -1,0 +1,80 @@
+-- The refusals of an append that joins, in their order, as the code meets them.
+use mathlib.Core.Path.{_≡_, sym, ap, ap₂, _∙_}
+use mathlib.Core.Bool.{Bool, true, false, cond, not}
+use mathlib.Core.List.{List}
+use Prim.Native.Nat.{ℕ, _+_, _*_, _≤_}
+use native.Mathlib.Nat.{mul-le-mul-right, one-mul}
+use native.Mathlib.Omega.{arith}
+use borrow.Author.Tests.{leb-true, not-true, not-false}
+use lib.Dec.{leb}
+use mir.Syntax.{w64}
+use mir.Val.{Fits}
+use Rattle.units.specs.declared.Span.{Span}
+use Rattle.units.specs.Limits.{largestTick, spanHeld}
+use Rattle.window.specs.Limits.{Held}
+use Rattle.window.specs.Place.{beforeEnd}
+use Rattle.runs.proofs.Encoded.{span-limits}
+use Rattle.agreement.specs.declared.Record.{Record}
+use Rattle.agreement.specs.declared.refusal.Refusal.the-variants as refusal
+use Rattle.agreement.specs.Agreement.{every, countsHeld, agrees}
+use Rattle.agreement.proofs.Agreeing.{agreeing}
+use Rattle.keeping.specs.declared.Outcome.the-variants.{Refused}
+use Rattle.keeping.specs.Joined.{Fitting, given, roomOutcome, fitOutcome}
+
+-- ---- from 6 on
+
+module _ (rec : Record) (ws : List ℕ) (span : Span) (n : ℕ) (h : (agrees rec ws ≡ true) × (spanHeld span ≡ true) × (1 ≤ n)) where
+  lasts : 1 ≤ span .0
+  lasts = span-limits span (h .1) .0
+
+  pub ends-asks : (rec .next .0 ≤ largestTick) × (1 ≤ span .0)
+  ends-asks = (agreeing rec ws (h .0) .held .next, lasts)
+
+  begins : Bool
+  begins = every (λ r. beforeEnd (rec .head) (r .start .0)) (given rec (span .0) n)
+
+  counts : Bool
+  counts = countsHeld (rec .head .first .0) (rec .accepted + n)
+
+  module _ (x : Bool) (e : x ≡ leb (rec .next .0 + span .0 * n) largestTick) where
+    by-ends : fitOutcome rec ws (span .0) n ≡ cond x (cond counts (cond begins (roomOutcome rec ws (span .0) n) (Refused refusal.PastEnd)) (Refused refusal.CountLimit)) (Refused refusal.TickLimit)
+    unfolding fitOutcome begins counts
+    by-ends = ap (λ t. cond t (cond counts (cond begins (roomOutcome rec ws (span .0) n) (Refused refusal.PastEnd)) (Refused refusal.CountLimit)) (Refused refusal.TickLimit)) (sym e)
+
+    pub ends-over : not x ≡ true → fitOutcome rec ws (span .0) n ≡ Refused refusal.TickLimit
+    ends-over m = by-ends ∙ ap (λ t. cond t (cond counts (cond begins (roomOutcome rec ws (span .0) n) (Refused refusal.PastEnd)) (Refused refusal.CountLimit)) (Refused refusal.TickLimit)) (not-true x m)
+
+    module _ (m : not x ≡ false) where
+      ends : rec .next .0 + span .0 * n ≤ largestTick
+      ends = leb-true (rec .next .0 + span .0 * n) largestTick (sym e ∙ not-false x m)
+
+      pub counts-fit : Fits w64 (rec .accepted + n)
+      counts-fit =
+          let few : 1 * n ≤ span .0 * n = mul-le-mul-right n lasts in
+          record { fits = omega (arith, ends, one-mul n, agreeing rec ws (h .0) .held .accepted) }
+
+      pub begins-asks : Held (rec .head) × (1 ≤ n) × (rec .next .0 + span .0 * n ≤ largestTick)
+      begins-asks = (agreeing rec ws (h .0) .held .head, h .2, ends)
+
+      module _ (y : Bool) (f : y ≡ countsHeld (rec .head .first .0) (rec .accepted + n)) where
+        by-counts : fitOutcome rec ws (span .0) n ≡ cond y (cond begins (roomOutcome rec ws (span .0) n) (Refused refusal.PastEnd)) (Refused refusal.CountLimit)
+        unfolding counts
+        by-counts = by-ends ∙ ap₂ (λ t u. cond t (cond u (cond begins (roomOutcome rec ws (span .0) n) (Refused refusal.PastEnd)) (Refused refusal.CountLimit)) (Refused refusal.TickLimit)) (not-false x m) (sym f)
+
+        pub counts-over : not y ≡ true → fitOutcome rec ws (span .0) n ≡ Refused refusal.CountLimit
+        counts-over k = by-counts ∙ ap (λ t. cond t (cond begins (roomOutcome rec ws (span .0) n) (Refused refusal.PastEnd)) (Refused refusal.CountLimit)) (not-true y k)
+
+        module _ (k : not y ≡ false) where
+          pub fitting : Fitting rec ws span n
+          fitting = record { agreed = h .0; held = h .1; some = h .2; ends = ends; counts = sym f ∙ not-false y k }
+
+          module _ (z : Bool) (g : z ≡ every (λ r. beforeEnd (rec .head) (r .start .0)) (given rec (span .0) n)) where
+            by-begins : fitOutcome rec ws (span .0) n ≡ cond z (roomOutcome rec ws (span .0) n) (Refused refusal.PastEnd)
+            unfolding begins
+            by-begins = by-counts ∙ ap₂ (λ t u. cond t (cond u (roomOutcome rec ws (span .0) n) (Refused refusal.PastEnd)) (Refused refusal.CountLimit)) (not-false y k) (sym g)
+
+            pub begins-past : not z ≡ true → fitOutcome rec ws (span .0) n ≡ Refused refusal.PastEnd
+            begins-past i = by-begins ∙ ap (λ t. cond t (roomOutcome rec ws (span .0) n) (Refused refusal.PastEnd)) (not-true z i)
+
+            pub begins-before : not z ≡ false → fitOutcome rec ws (span .0) n ≡ roomOutcome rec ws (span .0) n
+            begins-before i = by-begins ∙ ap (λ t. cond t (roomOutcome rec ws (span .0) n) (Refused refusal.PastEnd)) (not-false z i)

@@ -1,0 +1,13 @@
+-- `has_room` meets its contract, either way.
+use borrow.Author.Needs.{needs}
+use Rattle.keeping.proofs.Appends.{room-there, room-if}
+use Rattle.keeping.proofs.joined.has_room.Statement.{statement}
+use Rattle.keeping.proofs.joined.has_room.Tie as tie
+
+pub has-room-spec : {M : Type 1} → statement M
+has-room-spec =
+    tie.close
+    (tie.spec
+    (λ c κs. search needs)
+    (λ c. search (needs, room-there))
+    (λ c. search (needs, room-if)))

@@ -1,0 +1,41 @@
+// What a timeline keeps: which references a clock leaves, and the append that joins. Here is what stands
+// under the calls that change and under the reader of a file.
+ghost use mathlib.Core.Path.{_≡_};
+use agreement::Record;
+use agreement::Refusal;
+
+mod joined;
+mod spent;
+
+pub use joined::append_joined;
+pub use spent::gone_in;
+
+// What came of a call that changes.
+pub enum Outcome {
+    Accepted,
+    Refused(Refusal),
+}
+
+// The outcome, and the record to go on with: as it came where the call is refused.
+pub struct Changed {
+    pub outcome: Outcome,
+    pub rec: Record,
+}
+
+pub fn refused(why: Refusal, rec: Record) -> Changed
+    ensures { λ r. ⌜ r ≡ record { outcome = Outcome.Refused why; rec = rec } ⌝ }
+{
+    Changed {
+        outcome: Outcome::Refused(why),
+        rec,
+    }
+}
+
+pub fn accepted(rec: Record) -> Changed
+    ensures { λ r. ⌜ r ≡ record { outcome = Outcome.Accepted; rec = rec } ⌝ }
+{
+    Changed {
+        outcome: Outcome::Accepted,
+        rec,
+    }
+}
