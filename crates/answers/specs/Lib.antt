@@ -4,5 +4,6 @@ pub mod Judgement
 pub mod Shares
 pub mod Available
 pub mod Spans
+pub mod Numbers
 pub mod Ranges
 pub mod Steps

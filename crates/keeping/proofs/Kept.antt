@@ -1,6 +1,6 @@
 -- Agreement is kept: of joined references, what is not spent makes an agreeing table, and so does an append that joins.
 use mathlib.Core.Path.{_≡_, refl, ap, ap₂, subst⁻¹, _∙_}
-use mathlib.Core.Bool.{true, not, _&&_, and-eq-true-iff}
+use mathlib.Core.Bool.{true, _&&_, and-eq-true-iff}
 use mathlib.Core.List.{List, [], _∷_, _++_}
 use Prim.Native.Nat.{ℕ, zero, suc, _+_, _-_, _*_, _/_, _^_, _≤_}
 use native.Mathlib.Omega.{arith}
@@ -35,7 +35,7 @@ unfolding lastEnd
 last-behind t r [] e = refl
 last-behind t r (x ∷ xs) e = e
 
-pub last-drop : (t n : ℕ) (rs : List Reference) → lastEnd t rs ≡ t → lastEnd t (drop n rs) ≡ t
+last-drop : (t n : ℕ) (rs : List Reference) → lastEnd t rs ≡ t → lastEnd t (drop n rs) ≡ t
 last-drop t zero rs e = e
 last-drop t (suc n) [] e = e
 last-drop t (suc n) (r ∷ rs) e = last-drop t n rs (last-behind t r rs e)

@@ -10,7 +10,6 @@ use Rattle.keeping.specs.declared.Outcome.the-variants.{Accepted, Refuse
 use Rattle.keeping.specs.declared.Changed.{Changed}
 use Rattle.keeping.specs.Keeping.{changedBy, wordsBy}
 use native.Mathlib.Nat.{suc-ne-zero}
-use Rattle.window.specs.Window.{passed}
 
 module _ (o : Outcome) (new old : Record) where
   -- a refused call answers the record as it came

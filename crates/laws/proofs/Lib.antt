@@ -5,4 +5,7 @@ pub mod Verdicts
 pub mod Offers
 pub mod Files
 pub mod Demand2
+pub mod Rows
+pub mod Changing
+pub mod Refusals
 pub mod Unique

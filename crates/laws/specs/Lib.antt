@@ -2,4 +2,5 @@ pub mod ByHand
 pub mod Calls
 pub mod Demand2
 pub mod History
+pub mod Refusals
 pub mod Unique

@@ -17,7 +17,6 @@ use Rattle.window.specs.declared.Head.{Head}
 use Rattle.window.specs.Limits.{headHeld}
 use Rattle.window.proofs.Limits.{held-is}
 use Rattle.window.specs.Place.{beforeEnd}
-use Rattle.window.specs.Window.{passed}
 use Rattle.runs.specs.Words.{wordsOf, capacity}
 use Rattle.runs.specs.Encoding.{encode, tableOf, runsFor, canonical}
 use Rattle.runs.specs.Joining.{lastEnd}
@@ -159,7 +158,7 @@ taken rec ws st d n o =
     }
 
 module _ (rec : Record) (ws : List ℕ) (st : Standing) (d n : ℕ) (narrow : d ≤ largestSpan) (o : appendOutcome rec ws st d n ≡ Accepted) where
-  pub accepted-fits : Fitting rec ws (record { 0 = d }) n
+  accepted-fits : Fitting rec ws (record { 0 = d }) n
   accepted-fits =
       let t = taken rec ws st d n o in
       record {

@@ -13,7 +13,7 @@ use Rattle.agreement.specs.declared.Record.{Record}
 use Rattle.agreement.specs.declared.refusal.Refusal.the-variants as refusal
 use Rattle.agreement.specs.Agreement.{agrees}
 use Rattle.keeping.specs.declared.Outcome.{Outcome}
-use Rattle.keeping.specs.declared.Outcome.the-variants.{Accepted, Refused}
+use Rattle.keeping.specs.declared.Outcome.the-variants.{Refused}
 use Rattle.keeping.specs.declared.Changed.{Changed}
 use Rattle.keeping.specs.Keeping.{changedBy, wordsBy}
 use Rattle.keeping.specs.Joined.{leftOf, fitOutcome, appended}

@@ -1,0 +1,110 @@
+-- Given exactly when. Each call gives the lowest number whose condition holds, and 0 where none does, for any record, table and
+-- arguments: so it refuses what it should, and nothing else. A call is a table with a row for each of its numbers, in the words of
+-- the paper's column. The lines of a file are judged one by one, in orders of their own (`file`'s Judging). Paper: Refusal numbers.
+use Prim.Native.Nat.{ℕ, _+_, _*_, _^_, _≤_}
+use mathlib.Core.Path.{_≡_}
+use mathlib.Core.Bool.{Bool, false, cond, not, _&&_, _||_}
+use mathlib.Core.List.{List, [], _∷_}
+use lib.Dec.{eqb, leb, ltb}
+use lib.ListN.{length}
+use Rattle.units.specs.declared.Tick.{Tick}
+use Rattle.units.specs.declared.WideTick.{WideTick}
+use Rattle.units.specs.declared.Stamp.{Stamp}
+use Rattle.units.specs.declared.Millis.{Millis}
+use Rattle.units.specs.declared.Number.{Number}
+use Rattle.units.specs.Limits.{largestTick, largestSpan, largestMillis, largestTimescale, largestNumber}
+use Rattle.units.specs.Standing.{less32, tickStanding, stampStanding}
+use Rattle.window.specs.declared.Head.{Head}
+use Rattle.window.specs.declared.Reference.{Reference}
+use Rattle.window.specs.Place.{beforeEnd}
+use Rattle.runs.specs.Words.{capacity}
+use Rattle.runs.specs.Steps.{needsRun}
+use Rattle.agreement.specs.declared.Record.{Record}
+use Rattle.agreement.specs.Agreement.{agrees}
+use Rattle.keeping.specs.Keeping.{unspent, outcomeNumber}
+use Rattle.keeping.specs.Joined.{given}
+use Rattle.timeline.specs.Opening.{openAnswer}
+use Rattle.timeline.specs.Appending.{appendAnswer}
+use Rattle.timeline.specs.Trimming.{trimAnswer}
+use Rattle.answers.specs.Judgement.{verdictAt, verdictWhole}
+use Rattle.answers.specs.Available.{availabilityIn, availableIn}
+use Rattle.answers.specs.Spans.{touchingWords}
+use Rattle.answers.specs.Numbers.{verdictNumber, availabilityNumber, availableNumber, touchingNumber}
+use Rattle.file.specs.Writing.{fileFor, writeAnswer, writeNumber}
+
+-- the number of the first row whose condition holds, 0 where none does
+abbrev pub lowest : List (Bool × ℕ) → ℕ
+lowest [] = 0
+lowest (row ∷ rows) = cond (row .0) (row .1) (lowest rows)
+
+-- whether one of them at least passes a test
+unfoldable pub some : (Reference → Bool) → List Reference → Bool
+some t [] = false
+some t (r ∷ rs) = t r || some t rs
+
+-- ---- the calls that change
+
+-- 1: a head field, the first tick or the offset is over its limit, or the timescale is 0
+abbrev pub overLimit : Head → Tick → Bool
+overLimit h t =
+    ((eqb (h .timescale .0) 0 || ltb largestTimescale (h .timescale .0)) || ltb largestTick (h .offset .0) || ltb largestMillis (h .start .0) ||
+    ltb largestMillis (h .duration .0) || ltb largestMillis (h .depth .0) || ltb largestNumber (h .first .0)) || ltb largestTick (t .0)
+
+-- 8: a reference starts at or after a known period end
+abbrev pub startsPast : Record → ℕ → ℕ → Bool
+startsPast rec d n = some (λ r. not (beforeEnd (rec .head) (r .start .0))) (given rec d n)
+
+-- 9: a part is stored, it needs a new run, and used runs equal capacity
+abbrev pub noRunLeft : Record → List ℕ → ℕ → ℕ → Bool
+noRunLeft rec ws d n =
+    ltb 0 (length (unspent (rec .head) (rec .clock .0) (given rec d n))) && (needsRun (rec .used) ws d && eqb (rec .used) (capacity ws))
+
+-- an append, by whether its start lies after or before the next tick
+abbrev pub appendRows : Record → List ℕ → Bool → Bool → ℕ → ℕ → List (Bool × ℕ)
+appendRows rec ws after before d n =
+    (not (agrees rec ws), 2) ∷
+    (eqb d 0 || eqb n 0, 3) ∷
+    (after, 4) ∷
+    (before, 5) ∷
+    (ltb largestTick (rec .next .0 + d * n), 6) ∷
+    (ltb (2 ^ 31) (rec .accepted + n) || ltb largestNumber (rec .head .first .0 + (rec .accepted + n)), 7) ∷
+    (startsPast rec d n, 8) ∷
+    (noRunLeft rec ws d n, 9) ∷
+    []
+
+-- ---- the calls that look
+
+-- 13: the number lies before the first kept reference's or after the last one's
+abbrev pub notKept : Record → Number → Bool
+notKept rec n = ltb (n .0) (rec .head .first .0 + rec .dropped) || leb (rec .head .first .0 + rec .accepted) (n .0)
+
+-- the table of every call that takes a record or makes one
+pub record Refusals : Type 0 where
+  pub opening : (h : Head) (t : Tick) → outcomeNumber (openAnswer h t .outcome) ≡ lowest ((overLimit h t, 1) ∷ [])
+  pub append : (rec : Record) (ws : List ℕ) (start : WideTick) (d n : ℕ) → d ≤ largestSpan →
+      outcomeNumber (appendAnswer rec ws (tickStanding start (rec .next)) d n .outcome) ≡
+      lowest (appendRows rec ws (ltb (rec .next .0) (start .0)) (ltb (start .0) (rec .next .0)) d n)
+  pub append-stamp : (rec : Record) (ws : List ℕ) (stamp : Stamp) (d n : ℕ) → d ≤ largestSpan →
+      outcomeNumber (appendAnswer rec ws (stampStanding stamp (rec .next)) d n .outcome) ≡
+      lowest
+      (appendRows rec ws
+      (ltb 0 (less32 (stamp .0) (rec .next .0)) && ltb (less32 (stamp .0) (rec .next .0)) (2 ^ 31))
+      (leb (2 ^ 31) (less32 (stamp .0) (rec .next .0)))
+      d n)
+  pub trim : (rec : Record) (ws : List ℕ) (c : Millis) →
+      outcomeNumber (trimAnswer rec ws c .outcome) ≡ lowest ((not (agrees rec ws), 2) ∷ (ltb largestMillis (c .0), 10) ∷ [])
+  pub verdict : (rec : Record) (ws : List ℕ) (c : Millis) →
+      verdictNumber (verdictAt rec ws c) ≡
+      lowest ((not (agrees rec ws), 2) ∷ (ltb largestMillis (c .0), 10) ∷ (ltb (c .0) (rec .clock .0), 11) ∷ [])
+  pub verdict-whole : (rec : Record) (ws : List ℕ) →
+      verdictNumber (verdictWhole rec ws) ≡ lowest ((not (agrees rec ws), 2) ∷ (eqb (rec .head .duration .0) 0, 19) ∷ [])
+  pub availability : (rec : Record) (ws : List ℕ) (n : Number) →
+      availabilityNumber (availabilityIn rec ws n) ≡ lowest ((not (agrees rec ws), 2) ∷ (notKept rec n, 13) ∷ [])
+  pub available-at : (rec : Record) (ws : List ℕ) (n : Number) (c : Millis) →
+      availableNumber (availableIn rec ws n c) ≡
+      lowest ((not (agrees rec ws), 2) ∷ (ltb largestMillis (c .0), 10) ∷ (notKept rec n, 13) ∷ [])
+  pub touching : (rec : Record) (ws : List ℕ) (a b : WideTick) →
+      touchingNumber (touchingWords rec ws a b) ≡ lowest ((not (agrees rec ws), 2) ∷ (leb (b .0) (a .0), 14) ∷ [])
+  pub write : (rec : Record) (ws : List ℕ) (room : ℕ) →
+      writeNumber (writeAnswer rec ws room) ≡
+      lowest ((not (agrees rec ws), 2) ∷ (eqb (rec .used) 0, 12) ∷ (ltb room (length (fileFor rec ws)), 15) ∷ [])
