@@ -2,24 +2,20 @@
 -- gives the state of a history, every accepted call takes it to the state of the longer history, and every refused call
 -- leaves it.
 use mathlib.Core.Path.{_≡_, refl, sym, ap, ap₂, subst, subst⁻¹, _∙_}
-use mathlib.Core.Bool.{Bool, true, false, cond, and-eq-true-iff, true≢false}
+use mathlib.Core.Bool.{true}
 use mathlib.Core.List.{List, [], _∷_, _++_, append-nil, append-assoc}
-use Prim.Native.Nat.{ℕ, zero, suc, _+_, _-_, _*_, _/_, _≤_, max}
-use native.Mathlib.Nat.{le-max-left, max-zero, zero-max, le-refl, le-trans, le-antisymm, sub-zero, sub-self}
+use Prim.Native.Nat.{ℕ, _+_, _-_, _*_, _/_, _≤_, max}
+use native.Mathlib.Nat.{le-max-left, max-zero, zero-max, le-refl, le-trans, le-antisymm, sub-zero}
 use native.Mathlib.Omega.{arith}
-use borrow.Author.Tests.{leb-true}
-use lib.ListN.{length, take, drop, replicate, length-append, length-replicate, length-drop}
+use lib.ListN.{length, take, drop, replicate, length-append, length-replicate}
 use Rattle.units.specs.declared.Millis.{Millis}
 use Rattle.units.specs.declared.Tick.{Tick}
 use Rattle.units.specs.declared.standing.Standing.{Standing}
 use Rattle.units.specs.Standing.{tickStanding, stampStanding}
-use Rattle.units.specs.Limits.{largestSpan, largestMillis, millisHeld}
+use Rattle.units.specs.Limits.{largestSpan, largestMillis}
 use Rattle.window.specs.declared.Head.{Head}
 use Rattle.window.specs.declared.Reference.{Reference}
-use Rattle.window.specs.Place.{beforeEnd}
-use Rattle.window.specs.Window.{endOf, passed}
 use Rattle.window.specs.References.{Joined, Each, Sound}
-use Rattle.window.proofs.Spending.{passed-later, passed-spent, yet-needed}
 use Rattle.runs.specs.Words.{repeated}
 use Rattle.runs.specs.Words as Words
 use Rattle.runs.specs.Encoding.{encode, tableOf, runsFor, canonical}
@@ -30,68 +26,20 @@ use Rattle.runs.proofs.Keeping.{join-drop, runs-drop}
 use Rattle.runs.proofs.Tables.{canonical-kept, canonical-length, used-fits}
 use Rattle.agreement.specs.declared.Record.{Record}
 use Rattle.agreement.specs.declared.refusal.Refusal.{Refusal}
-use Rattle.agreement.specs.declared.refusal.Refusal.the-variants.{Disagreement, ClockLimit}
-use Rattle.agreement.specs.Agreement.{kept, every, agrees}
+use Rattle.agreement.specs.Agreement.{kept, agrees}
 use Rattle.agreement.proofs.Agreeing.{agree-shaped, agreeing}
 use Rattle.keeping.specs.declared.Outcome.{Outcome}
 use Rattle.keeping.specs.declared.Outcome.the-variants.{Accepted, Refused}
 use Rattle.keeping.specs.Keeping.{unspent, changedBy, wordsBy}
 use Rattle.keeping.specs.Joined.{given, allOf, leftOf, appended}
 use Rattle.keeping.proofs.Unspent.{unspent-append, unspent-few, unspent-suffix}
-use Rattle.keeping.proofs.Outcomes.{past-if}
 use Rattle.timeline.specs.Opening.{freshRecord, openOutcome}
 use Rattle.timeline.specs.Appending.{appendOutcome}
 use Rattle.timeline.specs.Trimming.{leftAt, trimOutcome, trimmed}
 use Rattle.timeline.proofs.Kept.{open-agrees, trim-keeps, Taken, taken, accepted-keeps}
 use Rattle.laws.specs.Calls.{Call, byTick, byStamp, trimAt, Plain, State, opened, appendTo, after, run, ifAccepted, brought, clockIf, clockOf, allAccepted, greatest}
-use Rattle.laws.specs.History.{StillNeeded, Picked, end, kept-one, left-out, Holds, Demand3}
-
--- ---- what is left of what was left
-
-unspent-raised : (h : Head) (c d : ℕ) → c ≤ d → (rs : List Reference) → unspent h d (unspent h c rs) ≡ unspent h d rs
-unfolding unspent
-unspent-raised h c d l [] = refl
-unspent-raised h c d l (r ∷ rs) = go (passed h (endOf r) c) refl (unspent-raised h c d l rs)
-  where
-    go : (t : Bool) → passed h (endOf r) c ≡ t → unspent h d (unspent h c rs) ≡ unspent h d rs →
-        unspent h d (cond t (unspent h c rs) (r ∷ unspent h c rs)) ≡ cond (passed h (endOf r) d) (unspent h d rs) (r ∷ unspent h d rs)
-    go true e k = k ∙ sym (ap (λ u. cond u (unspent h d rs) (r ∷ unspent h d rs)) (passed-later h (endOf r) c d l e))
-    go false e k = ap (λ xs. cond (passed h (endOf r) d) xs (r ∷ xs)) k
-
--- an accepted trim had a clock within its limit
-trim-small : (rec : Record) (ws : List ℕ) (m : Millis) → trimOutcome rec ws m ≡ Accepted → m .0 ≤ largestMillis
-unfolding trimOutcome
-trim-small rec ws m e =
-    let a = past-if (agrees rec ws) (cond (millisHeld m) Accepted (Refused ClockLimit)) Disagreement e in
-    leb-true (m .0) largestMillis (past-if (millisHeld m) Accepted ClockLimit (a .1) .0)
-
--- references that start before the period end and last
-each-sound : (h : Head) (d : ℕ) → 1 ≤ d → (s n : ℕ) → every (λ r. beforeEnd h (r .start .0)) (repeated s d n) ≡ true → Each (Sound h) (repeated s d n)
-unfolding repeated every
-each-sound h d l s zero b = tt
-each-sound h d l s (suc n) b =
-    let k = and-eq-true-iff (beforeEnd h s) (every (λ r. beforeEnd h (r .start .0)) (repeated (s + d) d n)) .0 b in
-    (record { lasts = l; begins = k .0 }, each-sound h d l (s + d) n (k .1))
-
--- a suffix stands behind as many as it lacks
-drop-counted : (n : ℕ) (rs : List Reference) → drop n rs ≡ drop (length rs - length (drop n rs)) rs
-drop-counted zero rs = ap (λ (k : ℕ). drop k rs) (sym (sub-self (length rs)))
-drop-counted (suc n) [] = refl
-drop-counted (suc n) (r ∷ rs) =
-    let few : length (drop n rs) ≤ length rs = omega (arith, length-drop n rs) in
-    let one : suc (length rs - length (drop n rs)) ≡ suc (length rs) - length (drop n rs) = omega arith in
-    drop-counted n rs ∙ ap (λ (k : ℕ). drop k (r ∷ rs)) one
-
--- what is left is what is still needed
-still : (h : Head) (c : ℕ) → 1 ≤ h .timescale .0 → (rs : List Reference) → Each (Sound h) rs → Picked (StillNeeded h c) rs (unspent h c rs)
-unfolding unspent
-still h c l [] s = end
-still h c l (r ∷ rs) s = go (passed h (endOf r) c) refl (still h c l rs (s .1))
-  where
-    go : (b : Bool) → passed h (endOf r) c ≡ b → Picked (StillNeeded h c) rs (unspent h c rs) →
-        Picked (StillNeeded h c) (r ∷ rs) (cond b (unspent h c rs) (r ∷ unspent h c rs))
-    go true e k = left-out (λ w. true≢false (sym (w .2) ∙ passed-spent h r c e (w .0) (w .1))) k
-    go false e k = kept-one (yet-needed h r c l (s .0 .lasts) (s .0 .begins) e) k
+use Rattle.laws.specs.History.{StillNeeded, Picked, Holds, Demand3}
+use Rattle.laws.proofs.Leaving.{unspent-raised, trim-small, each-sound, drop-counted, still}
 
 -- ---- the state of a history
 
@@ -139,26 +87,27 @@ module _ (h : Head) (t : Tick) (words : ℕ) where
       new : List Reference
       new = repeated (lastEnd (t .0) acc) d n
 
-      append-refused : (why : Refusal) → appendOutcome (recordOf acc c) (wordsOf acc c) st d n ≡ Refused why →
-          appendTo (stateOf acc c) st d n ≡ stateOf acc c
-      unfolding changedBy wordsBy
-      append-refused why e =
+      append-by : (o : Outcome) → appendOutcome (recordOf acc c) (wordsOf acc c) st d n ≡ o →
+          appendTo (stateOf acc c) st d n ≡
+          stateFrom (changedBy o (appended (recordOf acc c) (wordsOf acc c) d n) (recordOf acc c) .rec)
+          (wordsBy o (canonical (length (wordsOf acc c)) (leftOf (recordOf acc c) (wordsOf acc c) d n)) (wordsOf acc c))
+      append-by o e =
           ap
           (λ o.
           stateFrom (changedBy o (appended (recordOf acc c) (wordsOf acc c) d n) (recordOf acc c) .rec)
           (wordsBy o (canonical (length (wordsOf acc c)) (leftOf (recordOf acc c) (wordsOf acc c) d n)) (wordsOf acc c)))
           e
 
+      append-refused : (why : Refusal) → appendOutcome (recordOf acc c) (wordsOf acc c) st d n ≡ Refused why →
+          appendTo (stateOf acc c) st d n ≡ stateOf acc c
+      unfolding changedBy wordsBy
+      append-refused why e = append-by (Refused why) e
+
       module _ (narrow : d ≤ largestSpan) (e : appendOutcome (recordOf acc c) (wordsOf acc c) st d n ≡ Accepted) where
         append-done : appendTo (stateOf acc c) st d n ≡
             stateFrom (appended (recordOf acc c) (wordsOf acc c) d n) (canonical (length (wordsOf acc c)) (leftOf (recordOf acc c) (wordsOf acc c) d n))
         unfolding changedBy wordsBy
-        append-done =
-            ap
-            (λ o.
-            stateFrom (changedBy o (appended (recordOf acc c) (wordsOf acc c) d n) (recordOf acc c) .rec)
-            (wordsBy o (canonical (length (wordsOf acc c)) (leftOf (recordOf acc c) (wordsOf acc c) d n)) (wordsOf acc c)))
-            e
+        append-done = append-by Accepted e
 
         took : Taken (recordOf acc c) (wordsOf acc c) st d n
         took = taken (recordOf acc c) (wordsOf acc c) st d n e
@@ -230,25 +179,26 @@ module _ (h : Head) (t : Tick) (words : ℕ) where
     -- ---- a trim
 
     module _ (m : Millis) where
-      trim-refused : (why : Refusal) → trimOutcome (recordOf acc c) (wordsOf acc c) m ≡ Refused why → after (stateOf acc c) (trimAt m) ≡ stateOf acc c
-      unfolding changedBy wordsBy
-      trim-refused why e =
+      trim-by : (o : Outcome) → trimOutcome (recordOf acc c) (wordsOf acc c) m ≡ o →
+          after (stateOf acc c) (trimAt m) ≡
+          stateFrom (changedBy o (trimmed (recordOf acc c) (wordsOf acc c) (m .0)) (recordOf acc c) .rec)
+          (wordsBy o (canonical (length (wordsOf acc c)) (leftAt (recordOf acc c) (wordsOf acc c) (m .0))) (wordsOf acc c))
+      trim-by o e =
           ap
           (λ o.
           stateFrom (changedBy o (trimmed (recordOf acc c) (wordsOf acc c) (m .0)) (recordOf acc c) .rec)
           (wordsBy o (canonical (length (wordsOf acc c)) (leftAt (recordOf acc c) (wordsOf acc c) (m .0))) (wordsOf acc c)))
           e
 
+      trim-refused : (why : Refusal) → trimOutcome (recordOf acc c) (wordsOf acc c) m ≡ Refused why → after (stateOf acc c) (trimAt m) ≡ stateOf acc c
+      unfolding changedBy wordsBy
+      trim-refused why e = trim-by (Refused why) e
+
       module _ (e : trimOutcome (recordOf acc c) (wordsOf acc c) m ≡ Accepted) where
         trim-done : after (stateOf acc c) (trimAt m) ≡
             stateFrom (trimmed (recordOf acc c) (wordsOf acc c) (m .0)) (canonical (length (wordsOf acc c)) (leftAt (recordOf acc c) (wordsOf acc c) (m .0)))
         unfolding changedBy wordsBy
-        trim-done =
-            ap
-            (λ o.
-            stateFrom (changedBy o (trimmed (recordOf acc c) (wordsOf acc c) (m .0)) (recordOf acc c) .rec)
-            (wordsBy o (canonical (length (wordsOf acc c)) (leftAt (recordOf acc c) (wordsOf acc c) (m .0))) (wordsOf acc c)))
-            e
+        trim-done = trim-by Accepted e
 
         less-is : leftAt (recordOf acc c) (wordsOf acc c) (m .0) ≡ unspent h (max c (m .0)) acc
         less-is = ap (unspent h (max c (m .0))) kept-is ∙ unspent-raised h c (max c (m .0)) (le-max-left c (m .0)) acc

@@ -1,0 +1,71 @@
+-- What is left of accepted references at a clock: of what was left before, the same, and exactly those that are still needed.
+use mathlib.Core.Path.{_≡_, refl, sym, ap, _∙_}
+use mathlib.Core.Bool.{Bool, true, false, cond, and-eq-true-iff, true≢false}
+use mathlib.Core.List.{List, [], _∷_}
+use Prim.Native.Nat.{ℕ, zero, suc, _+_, _-_, _≤_}
+use native.Mathlib.Nat.{sub-self}
+use native.Mathlib.Omega.{arith}
+use borrow.Author.Tests.{leb-true}
+use lib.ListN.{length, drop, length-drop}
+use Rattle.units.specs.declared.Millis.{Millis}
+use Rattle.units.specs.Limits.{largestMillis, millisHeld}
+use Rattle.window.specs.declared.Head.{Head}
+use Rattle.window.specs.declared.Reference.{Reference}
+use Rattle.window.specs.Place.{beforeEnd}
+use Rattle.window.specs.Window.{endOf, passed}
+use Rattle.window.specs.References.{Each, Sound}
+use Rattle.window.proofs.Spending.{passed-later, passed-spent, yet-needed}
+use Rattle.runs.specs.Words.{repeated}
+use Rattle.agreement.specs.declared.Record.{Record}
+use Rattle.agreement.specs.declared.refusal.Refusal.the-variants.{Disagreement, ClockLimit}
+use Rattle.agreement.specs.Agreement.{every, agrees}
+use Rattle.keeping.specs.declared.Outcome.the-variants.{Accepted, Refused}
+use Rattle.keeping.specs.Keeping.{unspent}
+use Rattle.keeping.proofs.Outcomes.{past-if}
+use Rattle.timeline.specs.Trimming.{trimOutcome}
+use Rattle.laws.specs.History.{StillNeeded, Picked, end, kept-one, left-out}
+
+pub unspent-raised : (h : Head) (c d : ℕ) → c ≤ d → (rs : List Reference) → unspent h d (unspent h c rs) ≡ unspent h d rs
+unfolding unspent
+unspent-raised h c d l [] = refl
+unspent-raised h c d l (r ∷ rs) = go (passed h (endOf r) c) refl (unspent-raised h c d l rs)
+  where
+    go : (t : Bool) → passed h (endOf r) c ≡ t → unspent h d (unspent h c rs) ≡ unspent h d rs →
+        unspent h d (cond t (unspent h c rs) (r ∷ unspent h c rs)) ≡ cond (passed h (endOf r) d) (unspent h d rs) (r ∷ unspent h d rs)
+    go true e k = k ∙ sym (ap (λ u. cond u (unspent h d rs) (r ∷ unspent h d rs)) (passed-later h (endOf r) c d l e))
+    go false e k = ap (λ xs. cond (passed h (endOf r) d) xs (r ∷ xs)) k
+
+-- an accepted trim had a clock within its limit
+pub trim-small : (rec : Record) (ws : List ℕ) (m : Millis) → trimOutcome rec ws m ≡ Accepted → m .0 ≤ largestMillis
+unfolding trimOutcome
+trim-small rec ws m e =
+    let a = past-if (agrees rec ws) (cond (millisHeld m) Accepted (Refused ClockLimit)) Disagreement e in
+    leb-true (m .0) largestMillis (past-if (millisHeld m) Accepted ClockLimit (a .1) .0)
+
+-- references that start before the period end and last
+pub each-sound : (h : Head) (d : ℕ) → 1 ≤ d → (s n : ℕ) → every (λ r. beforeEnd h (r .start .0)) (repeated s d n) ≡ true → Each (Sound h) (repeated s d n)
+unfolding repeated every
+each-sound h d l s zero b = tt
+each-sound h d l s (suc n) b =
+    let k = and-eq-true-iff (beforeEnd h s) (every (λ r. beforeEnd h (r .start .0)) (repeated (s + d) d n)) .0 b in
+    (record { lasts = l; begins = k .0 }, each-sound h d l (s + d) n (k .1))
+
+-- a suffix stands behind as many as it lacks
+pub drop-counted : (n : ℕ) (rs : List Reference) → drop n rs ≡ drop (length rs - length (drop n rs)) rs
+drop-counted zero rs = ap (λ (k : ℕ). drop k rs) (sym (sub-self (length rs)))
+drop-counted (suc n) [] = refl
+drop-counted (suc n) (r ∷ rs) =
+    let few : length (drop n rs) ≤ length rs = omega (arith, length-drop n rs) in
+    let one : suc (length rs - length (drop n rs)) ≡ suc (length rs) - length (drop n rs) = omega arith in
+    drop-counted n rs ∙ ap (λ (k : ℕ). drop k (r ∷ rs)) one
+
+-- what is left is what is still needed
+pub still : (h : Head) (c : ℕ) → 1 ≤ h .timescale .0 → (rs : List Reference) → Each (Sound h) rs → Picked (StillNeeded h c) rs (unspent h c rs)
+unfolding unspent
+still h c l [] s = end
+still h c l (r ∷ rs) s = go (passed h (endOf r) c) refl (still h c l rs (s .1))
+  where
+    go : (b : Bool) → passed h (endOf r) c ≡ b → Picked (StillNeeded h c) rs (unspent h c rs) →
+        Picked (StillNeeded h c) (r ∷ rs) (cond b (unspent h c rs) (r ∷ unspent h c rs))
+    go true e k = left-out (λ w. true≢false (sym (w .2) ∙ passed-spent h r c e (w .0) (w .1))) k
+    go false e k = kept-one (yet-needed h r c l (s .0 .lasts) (s .0 .begins) e) k
