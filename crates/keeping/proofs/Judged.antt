@@ -21,8 +21,6 @@ use Rattle.agreement.proofs.Agreeing.{agreeing}
 use Rattle.keeping.specs.declared.Outcome.the-variants.{Refused}
 use Rattle.keeping.specs.Joined.{Fitting, given, roomOutcome, fitOutcome}
 
--- ---- from 6 on
-
 module _ (rec : Record) (ws : List ℕ) (span : Span) (n : ℕ) (h : (agrees rec ws ≡ true) × (spanHeld span ≡ true) × (1 ≤ n)) where
   lasts : 1 ≤ span .0
   lasts = span-limits span (h .1) .0
