@@ -7,6 +7,7 @@ use borrow.Author.Tests.{eqb-true, le-leb, lt-leb, not-true, not-false}
 use lib.Dec.{eqb}
 use lib.ListN.{length, drop}
 use Rattle.window.specs.declared.Reference.{Reference}
+use Rattle.window.specs.Limits.{Held}
 use Rattle.window.specs.Place.{beforeEnd}
 use Rattle.window.specs.Window.{endOf, passed}
 use Rattle.window.specs.References.{Joined, Each}
@@ -96,14 +97,17 @@ module _ (rec : Record) (ws : List ℕ) (a : agrees rec ws ≡ true) where
   unfolding agrees
   parts = and-eq-true-iff (recordHeld rec && shaped (rec .used) ws) (keptRight rec (kept rec ws)) .0 a
 
-  pub agree-held : recordHeld rec ≡ true
+  agree-held : recordHeld rec ≡ true
   agree-held = and-eq-true-iff (recordHeld rec) (shaped (rec .used) ws) .0 (parts .0) .0
 
   pub agree-shaped : shaped (rec .used) ws ≡ true
   agree-shaped = and-eq-true-iff (recordHeld rec) (shaped (rec .used) ws) .0 (parts .0) .1
 
-  pub agree-kept : keptRight rec (kept rec ws) ≡ true
+  agree-kept : keptRight rec (kept rec ws) ≡ true
   agree-kept = parts .1
+
+  pub agree-head : Held (rec .head)
+  agree-head = record-facts rec agree-held .head
 
 -- the paper's list, item by item
 pub record Agreeing (rec : Record) (ws : List ℕ) : Type 0 where

@@ -1,36 +1,20 @@
--- A run that is held, as facts; and the tests that the code makes of a run of any words.
+-- The tests that the code makes of a run of any words, and the sums of a run that is held.
 use mathlib.Core.Path.{_≡_, refl, sym, ap, ap₂, _∙_}
-use mathlib.Core.Bool.{Bool, true, false, _&&_, not, and-eq-true-iff}
+use mathlib.Core.Bool.{Bool, true, false, _&&_, not}
 use Prim.Native.Nat.{ℕ, _+_, _-_, _*_, _/_, _≤_, _<_}
-use native.Mathlib.Nat.{le-div-iff-mul-le, div-lt-iff-lt-mul, mul-comm, mul-le-mul-left}
+use native.Mathlib.Nat.{le-div-iff-mul-le, div-lt-iff-lt-mul, mul-comm}
 use native.Mathlib.Omega.{arith}
 use borrow.Author.Tests.{leb-true, le-leb, lt-leb, eq-eqb, ne-eqb, not-true, not-false, leb-false}
 use lib.Dec.{leb, eqb}
 use mir.Syntax.{w64}
 use mir.Val.{Fits}
-use Rattle.units.specs.Limits.{largestTick, largestSpan, spanHeld}
+use Rattle.units.specs.Limits.{largestTick, spanHeld}
 use Rattle.runs.specs.declared.Run.{Run}
 use Rattle.runs.specs.Words.{runEnd}
 use Rattle.runs.specs.Shape.{runHeld}
+use Rattle.runs.proofs.Encoded.{span-limits, run-facts}
+use Rattle.runs.proofs.Moving.{part-fits, start-fits}
 use Rattle.agreement.specs.Finding.{joins}
-
-pub record HeldRun (r : Run) : Type 0 where
-  pub lasts : 1 ≤ r .span .0
-  pub short : r .span .0 ≤ largestSpan
-  pub some : 1 ≤ r .count
-  pub ends : runEnd r ≤ largestTick
-
-pub run-facts : (r : Run) → runHeld r ≡ true → HeldRun r
-run-facts r e =
-    let a = and-eq-true-iff (spanHeld (r .span) && leb 1 (r .count)) (leb (runEnd r) largestTick) .0 e in
-    let b = and-eq-true-iff (spanHeld (r .span)) (leb 1 (r .count)) .0 (a .0) in
-    let c = and-eq-true-iff (leb 1 (r .span .0)) (leb (r .span .0) largestSpan) .0 (b .0) in
-    record {
-      lasts = leb-true 1 (r .span .0) (c .0);
-      short = leb-true (r .span .0) largestSpan (c .1);
-      some = leb-true 1 (r .count) (b .1);
-      ends = leb-true (runEnd r) largestTick (a .1);
-    }
 
 -- an end within a limit, by a division that cannot wrap
 pub ends-by : (s d n most : ℕ) → 1 ≤ d → s ≤ most → leb n ((most - s) / d) ≡ leb (s + d * n) most
@@ -57,7 +41,7 @@ module _ (r : Run) where
     unheld-count z = sym (ap₂ (λ s k. s && k && leb (runEnd r) largestTick) spanned (lt-leb 1 (r .count) (omega arith)))
 
     pub span-some : 0 < r .span .0
-    span-some = leb-true 1 (r .span .0) (and-eq-true-iff (leb 1 (r .span .0)) (leb (r .span .0) largestSpan) .0 spanned .0)
+    span-some = span-limits (r .span) spanned .0
 
     module _ (z : r .count ≡ 0 → ⊥) where
       counted : leb 1 (r .count) ≡ true
@@ -74,23 +58,16 @@ module _ (r : Run) where
           sym (ap₂ (λ s k. s && k && leb (runEnd r) largestTick) spanned counted)
 
   module _ (held : runHeld r ≡ true) where
-    pub end-fits : Fits w64 (r .span .0 * r .count)
-    end-fits = let f = run-facts r held in record { fits = omega (arith, f .ends) }
-
-    pub end-sum-fits : Fits w64 (r .start .0 + r .span .0 * r .count)
-    end-sum-fits = let f = run-facts r held in record { fits = omega (arith, f .ends) }
-
-    before-last : r .span .0 * (r .count - 1) ≤ r .span .0 * r .count
-    before-last = mul-le-mul-left (r .span .0) (omega arith)
-
     pub count-some : 1 ≤ r .count
     count-some = run-facts r held .some
 
-    pub last-fits : Fits w64 (r .span .0 * (r .count - 1))
-    last-fits = let f = run-facts r held in record { fits = omega (arith, f .ends, before-last) }
+    -- as many of its references as it has, or fewer, end within the limit
+    module _ (n : ℕ) (l : n ≤ r .count) where
+      pub some-fit : Fits w64 (r .span .0 * n)
+      some-fit = part-fits (r .start .0) (r .span .0) (r .count) n l (run-facts r held .ends)
 
-    pub last-sum-fits : Fits w64 (r .start .0 + r .span .0 * (r .count - 1))
-    last-sum-fits = let f = run-facts r held in record { fits = omega (arith, f .ends, before-last) }
+      pub some-sum-fits : Fits w64 (r .start .0 + r .span .0 * n)
+      some-sum-fits = start-fits (r .start .0) (r .span .0) (r .count) n l (run-facts r held .ends)
 
 -- ---- two runs
 

@@ -15,11 +15,10 @@ use Rattle.runs.specs.declared.Run.{Run}
 use Rattle.runs.specs.Words.{runAt, runsOf, runEnd, repeated, referencesOf}
 use Rattle.runs.specs.Shape.{runHeld, follows, runsShaped}
 use Rattle.runs.proofs.Opening.{run-opens, repeated-length, references-length, total}
-use Rattle.runs.proofs.Encoded.{leads}
+use Rattle.runs.proofs.Encoded.{run-facts, leads}
 use Rattle.agreement.specs.declared.Found.{Found}
 use Rattle.agreement.specs.declared.Found.the-variants.{Unshaped, Nothing, Kept}
 use Rattle.agreement.specs.Finding.{firstIn, lastIn, joins, lastOf, summary, found}
-use Rattle.agreement.proofs.Runs.{run-facts}
 
 -- ---- the last reference
 

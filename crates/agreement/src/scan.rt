@@ -8,7 +8,6 @@ ghost use Rattle.runs.specs.Shape.{runHeld, zeros};
 ghost use Rattle.agreement.specs.Finding.{found, joins, firstIn, lastIn};
 use crate::Found;
 use runs::Run;
-use units::Span;
 use units::Tick;
 use window::Reference;
 
@@ -48,6 +47,7 @@ fn run_joins(last: Run, run: Run) -> bool
     last.span.0 != run.span.0
 }
 
+// The first reference of a run.
 fn first_in(run: Run) -> Reference
     ensures { λ r. ⌜ r ≡ firstIn run ⌝ }
 {
@@ -90,10 +90,10 @@ pub(crate) fn scan(table: &[u64], used: usize) -> Found
         if !run_held(run) {
             return Found::Unshaped;
         }
-        total = total + run.count;
+        total += run.count;
         last = run;
-        i = i + 3;
-        left = left - 1;
+        i += 3;
+        left -= 1;
     }
     Found::Kept(first_in(first), last_in(last), total)
 }
@@ -108,7 +108,7 @@ pub(crate) fn zeros_from(table: &[u64], from: usize) -> bool
         if table[i] != 0 {
             return false;
         }
-        i = i + 1;
+        i += 1;
     }
     true
 }

@@ -1,12 +1,12 @@
--- THE THEOREM, by its own name: a verdict is complete exactly where one tick at least is needed and every needed tick lies in a
--- kept reference. Percent is 100 exactly there, and the tick that a verdict says is lacking is the lowest that is.
-use mathlib.Core.Path.{_≡_, refl, sym, ap, ap₂, _∙_}
-use mathlib.Core.Bool.{Bool, true, false, cond, _&&_, not, and-eq-true-iff, true≢false, false≢true}
+-- THE THEOREM, by its own name: a verdict is complete exactly where one tick at least is needed and every needed tick lies
+-- in a kept reference. Percent is 100 exactly there, and the tick that a verdict says is lacking is the lowest that is.
+use mathlib.Core.Path.{_≡_, refl, sym, ap, _∙_}
+use mathlib.Core.Bool.{Bool, true, false, _&&_, not, and-eq-true-iff, true≢false, false≢true}
 use mathlib.Core.List.{List}
 use Prim.Native.Nat.{ℕ, zero, suc, _*_, _/_, _≤_, _<_}
 use native.Mathlib.Nat.{mul-div-cancel-left, div-lt-iff-lt-mul}
 use native.Mathlib.Omega.{arith}
-use borrow.Author.Tests.{eqb-true, eqb-false, eq-eqb, ne-eqb, le-leb, not-true}
+use borrow.Author.Tests.{eq-eqb, ne-eqb, not-true}
 use lib.Dec.{eqb, leb}
 use Rattle.units.specs.Exactly.{Exactly}
 use Rattle.units.specs.Limits.{millisHeld}
@@ -17,37 +17,22 @@ use Rattle.window.specs.declared.Reference.{Reference}
 use Rattle.window.specs.Place.{endKnown}
 use Rattle.window.specs.Window.{Stretch, windowAt, wholePeriod, tickNeeded}
 use Rattle.agreement.specs.declared.Record.{Record}
-use Rattle.agreement.specs.declared.refusal.Refusal.the-variants.{Disagreement, ClockLimit, EarlierClock, EndUnknown}
 use Rattle.agreement.specs.Agreement.{agrees, kept}
-use Rattle.answers.specs.declared.Verdict.{Verdict}
-use Rattle.answers.specs.declared.Verdict.the-variants.{Nothing, Complete, Lacking, Refused}
-use Rattle.answers.specs.declared.Percent.the-variants.{Of, Undefined}
+use Rattle.answers.specs.declared.Verdict.the-variants.{Lacking}
 use Rattle.answers.specs.Cover.{coveredBy}
 use Rattle.answers.specs.Counts.{countBelow, beyond, neededCount, coveredCount, lowestLacking}
 use Rattle.answers.specs.Judgement.{judged, verdictOf, verdictAt, verdictWhole, complete, Whole, Lowest}
 use Rattle.answers.specs.Shares.{verdictPercent, hundred}
-use Rattle.answers.proofs.Counting.{one-counted, count-some, count-all, count-each, count-less, none-counted, least-passes, least-first}
+use Rattle.answers.proofs.Counting.{apart, one-counted, count-some, count-all, count-each, count-less, none-counted, least-passes, least-first}
 use Rattle.answers.proofs.Covering.{needed-below}
-
-some-of : (n : ℕ) → eqb n 0 ≡ false → 1 ≤ n
-some-of zero e = absurd (true≢false e)
-some-of (suc n) e = omega arith
+use Rattle.answers.proofs.Cases.{to-complete, by-count, asked-at, by-asked-at, asked-whole, by-asked-whole}
+use Rattle.answers.proofs.Percents.{some-percent}
 
 -- ---- complete, by the counts
 
 counts-complete : (n c l : ℕ) → complete (judged n c l) ≡ true → (1 ≤ n) × (c ≡ n)
-counts-complete n c l = go (eqb n 0) refl (eqb c n) refl
-  where
-    go : (s : Bool) → eqb n 0 ≡ s → (t : Bool) → eqb c n ≡ t → complete (cond s Nothing (cond t (Complete n) (Lacking n c (record { 0 = l })))) ≡ true → (1 ≤ n) × (c ≡ n)
-    go true e t f h = absurd (false≢true h)
-    go false e true f h = (some-of n e, eqb-true c n f)
-    go false e false f h = absurd (false≢true h)
-
-complete-counts : (n c l : ℕ) → 1 ≤ n → c ≡ n → complete (judged n c l) ≡ true
-complete-counts n c l some e =
-    ap₂ (λ s t. complete (cond s Nothing (cond t (Complete n) (Lacking n c (record { 0 = l })))))
-    (ne-eqb n 0 (λ z. let y : ⊥ = omega arith in y))
-    (eq-eqb c n e)
+counts-complete n c l =
+    by-count n c l (λ v. complete v ≡ true → (1 ≤ n) × (c ≡ n)) (λ z h. absurd (false≢true h)) (λ some e h. (some, e)) (λ some o h. absurd (false≢true h))
 
 -- ---- THE THEOREM
 
@@ -65,50 +50,48 @@ module _ (h : Head) (w : Stretch) (rs : List Reference) where
 
       if : Whole h w rs → complete (verdictOf h w rs) ≡ true
       if q =
-          complete-counts (neededCount h w) (coveredCount h w rs) (lowestLacking h w rs)
+          ap complete
+          (to-complete (neededCount h w) (coveredCount h w rs) (lowestLacking h w rs)
           (count-some (tickNeeded h w) (beyond h w) (q .some .0) (needed-below h w (q .some .0) (q .some .1)) (q .some .1))
-          (count-all (tickNeeded h w) (coveredBy rs) (beyond h w) (q .each))
+          (count-all (tickNeeded h w) (coveredBy rs) (beyond h w) (q .each)))
 
 -- the same of the answers: a refused call is not complete
 pub complete-at : (rec : Record) (ws : List ℕ) (c : Millis) →
     Exactly (complete (verdictAt rec ws c))
     ((agrees rec ws ≡ true) × (millisHeld c ≡ true) × (leb (rec .clock .0) (c .0) ≡ true) × Whole (rec .head) (windowAt (rec .head) (c .0)) (kept rec ws))
-complete-at rec ws c = record { only = go (agrees rec ws) (millisHeld c) (leb (rec .clock .0) (c .0)); if = back }
+complete-at rec ws c = record { only = only; if = if }
   where
-    v : Verdict
-    v = verdictOf (rec .head) (windowAt (rec .head) (c .0)) (kept rec ws)
+    here : Exactly (complete (verdictOf (rec .head) (windowAt (rec .head) (c .0)) (kept rec ws))) (Whole (rec .head) (windowAt (rec .head) (c .0)) (kept rec ws))
+    here = complete-exactly (rec .head) (windowAt (rec .head) (c .0)) (kept rec ws)
 
-    go : (s t u : Bool) → complete (cond s (cond t (cond u v (Refused EarlierClock)) (Refused ClockLimit)) (Refused Disagreement)) ≡ true →
-        (s ≡ true) × (t ≡ true) × (u ≡ true) × Whole (rec .head) (windowAt (rec .head) (c .0)) (kept rec ws)
-    go true true true e = (refl, refl, refl, complete-exactly (rec .head) (windowAt (rec .head) (c .0)) (kept rec ws) .only e)
-    go true true false e = absurd (false≢true e)
-    go true false u e = absurd (false≢true e)
-    go false t u e = absurd (false≢true e)
+    Asked : Type 0
+    Asked = (agrees rec ws ≡ true) × (millisHeld c ≡ true) × (leb (rec .clock .0) (c .0) ≡ true) × Whole (rec .head) (windowAt (rec .head) (c .0)) (kept rec ws)
 
-    back : (agrees rec ws ≡ true) × (millisHeld c ≡ true) × (leb (rec .clock .0) (c .0) ≡ true) × Whole (rec .head) (windowAt (rec .head) (c .0)) (kept rec ws) →
-        complete (verdictAt rec ws c) ≡ true
-    back p =
-        ap (λ s. complete (cond s (cond (millisHeld c) (cond (leb (rec .clock .0) (c .0)) v (Refused EarlierClock)) (Refused ClockLimit)) (Refused Disagreement))) (p .0) ∙
-        ap₂ (λ t u. complete (cond t (cond u v (Refused EarlierClock)) (Refused ClockLimit))) (p .1) (p .2) ∙
-        complete-exactly (rec .head) (windowAt (rec .head) (c .0)) (kept rec ws) .if (p .3)
+    only : complete (verdictAt rec ws c) ≡ true → Asked
+    only =
+        by-asked-at rec ws c (λ v. complete v ≡ true → Asked) (λ a h. absurd (false≢true h)) (λ a m h. absurd (false≢true h)) (λ a m l h. absurd (false≢true h))
+        (λ a m l h. (a, m, l, here .only h))
+
+    if : Asked → complete (verdictAt rec ws c) ≡ true
+    if p = ap complete (asked-at rec ws c (p .0) (p .1) (p .2)) ∙ here .if (p .3)
 
 pub complete-whole : (rec : Record) (ws : List ℕ) →
     Exactly (complete (verdictWhole rec ws)) ((agrees rec ws ≡ true) × (endKnown (rec .head) ≡ true) × Whole (rec .head) (wholePeriod (rec .head)) (kept rec ws))
-complete-whole rec ws = record { only = go (agrees rec ws) (endKnown (rec .head)); if = back }
+complete-whole rec ws = record { only = only; if = if }
   where
-    v : Verdict
-    v = verdictOf (rec .head) (wholePeriod (rec .head)) (kept rec ws)
+    here : Exactly (complete (verdictOf (rec .head) (wholePeriod (rec .head)) (kept rec ws))) (Whole (rec .head) (wholePeriod (rec .head)) (kept rec ws))
+    here = complete-exactly (rec .head) (wholePeriod (rec .head)) (kept rec ws)
 
-    go : (s t : Bool) → complete (cond s (cond t v (Refused EndUnknown)) (Refused Disagreement)) ≡ true →
-        (s ≡ true) × (t ≡ true) × Whole (rec .head) (wholePeriod (rec .head)) (kept rec ws)
-    go true true e = (refl, refl, complete-exactly (rec .head) (wholePeriod (rec .head)) (kept rec ws) .only e)
-    go true false e = absurd (false≢true e)
-    go false t e = absurd (false≢true e)
+    Asked : Type 0
+    Asked = (agrees rec ws ≡ true) × (endKnown (rec .head) ≡ true) × Whole (rec .head) (wholePeriod (rec .head)) (kept rec ws)
 
-    back : (agrees rec ws ≡ true) × (endKnown (rec .head) ≡ true) × Whole (rec .head) (wholePeriod (rec .head)) (kept rec ws) → complete (verdictWhole rec ws) ≡ true
-    back p =
-        ap₂ (λ s t. complete (cond s (cond t v (Refused EndUnknown)) (Refused Disagreement))) (p .0) (p .1) ∙
-        complete-exactly (rec .head) (wholePeriod (rec .head)) (kept rec ws) .if (p .2)
+    only : complete (verdictWhole rec ws) ≡ true → Asked
+    only =
+        by-asked-whole rec ws (λ v. complete v ≡ true → Asked) (λ a h. absurd (false≢true h)) (λ a k h. absurd (false≢true h))
+        (λ a k h. (a, k, here .only h))
+
+    if : Asked → complete (verdictWhole rec ws) ≡ true
+    if p = ap complete (asked-whole rec ws (p .0) (p .1)) ∙ here .if (p .2)
 
 -- ---- percent is 100 exactly where the verdict is complete
 
@@ -121,52 +104,24 @@ short-percent c n l =
     ne-eqb (c * 100 / n) 100 (λ e. let z : ⊥ = omega arith in z)
 
 judged-percent : (n c l : ℕ) → c ≤ n → hundred (verdictPercent (judged n c l)) ≡ complete (judged n c l)
-judged-percent n c l m = go (eqb n 0) refl (eqb c n) refl
-  where
-    go : (s : Bool) → eqb n 0 ≡ s → (t : Bool) → eqb c n ≡ t →
-        hundred (verdictPercent (cond s Nothing (cond t (Complete n) (Lacking n c (record { 0 = l }))))) ≡ complete (cond s Nothing (cond t (Complete n) (Lacking n c (record { 0 = l }))))
-    go true e t f = refl
-    go false e true f =
-        let some : 1 ≤ n = some-of n e in
-        ap₂ (λ u v. hundred (cond u Undefined (cond v (Of (n * 100 / n)) Undefined))) e (le-leb n n (omega arith)) ∙
-        eq-eqb (n * 100 / n) 100 (mul-div-cancel-left 100 some)
-    go false e false f =
-        let apart : c ≡ n → ⊥ = eqb-false c n f in
-        let less : c < n = omega arith in
-        ap₂ (λ u v. hundred (cond u Undefined (cond v (Of (c * 100 / n)) Undefined))) e (le-leb c n m) ∙ short-percent c n less
+judged-percent n c l m =
+    by-count n c l (λ v. hundred (verdictPercent v) ≡ complete v) (λ z. refl)
+    (λ some e. ap hundred (sym (some-percent n n (apart n some) (n * 100 / n) (omega arith) refl)) ∙ eq-eqb (n * 100 / n) 100 (mul-div-cancel-left 100 some))
+    (λ some o. ap hundred (sym (some-percent c n (apart n some) (c * 100 / n) m refl)) ∙ short-percent c n (omega arith))
 
 module _ (h : Head) (w : Stretch) (rs : List Reference) where
-  pub percent-of : hundred (verdictPercent (verdictOf h w rs)) ≡ complete (verdictOf h w rs)
+  percent-of : hundred (verdictPercent (verdictOf h w rs)) ≡ complete (verdictOf h w rs)
   percent-of = judged-percent (neededCount h w) (coveredCount h w rs) (lowestLacking h w rs) (count-less (tickNeeded h w) (coveredBy rs) (beyond h w))
 
 pub percent-at : (rec : Record) (ws : List ℕ) (c : Millis) → hundred (verdictPercent (verdictAt rec ws c)) ≡ complete (verdictAt rec ws c)
-percent-at rec ws c = go (agrees rec ws) (millisHeld c) (leb (rec .clock .0) (c .0))
-  where
-    v : Verdict
-    v = verdictOf (rec .head) (windowAt (rec .head) (c .0)) (kept rec ws)
-
-    all : Bool → Bool → Bool → Verdict
-    all s t u = cond s (cond t (cond u v (Refused EarlierClock)) (Refused ClockLimit)) (Refused Disagreement)
-
-    go : (s t u : Bool) → hundred (verdictPercent (all s t u)) ≡ complete (all s t u)
-    go true true true = percent-of (rec .head) (windowAt (rec .head) (c .0)) (kept rec ws)
-    go true true false = refl
-    go true false u = refl
-    go false t u = refl
+percent-at rec ws c =
+    by-asked-at rec ws c (λ v. hundred (verdictPercent v) ≡ complete v) (λ a. refl) (λ a m. refl) (λ a m l. refl)
+    (λ a m l. percent-of (rec .head) (windowAt (rec .head) (c .0)) (kept rec ws))
 
 pub percent-whole : (rec : Record) (ws : List ℕ) → hundred (verdictPercent (verdictWhole rec ws)) ≡ complete (verdictWhole rec ws)
-percent-whole rec ws = go (agrees rec ws) (endKnown (rec .head))
-  where
-    v : Verdict
-    v = verdictOf (rec .head) (wholePeriod (rec .head)) (kept rec ws)
-
-    all : Bool → Bool → Verdict
-    all s t = cond s (cond t v (Refused EndUnknown)) (Refused Disagreement)
-
-    go : (s t : Bool) → hundred (verdictPercent (all s t)) ≡ complete (all s t)
-    go true true = percent-of (rec .head) (wholePeriod (rec .head)) (kept rec ws)
-    go true false = refl
-    go false t = refl
+percent-whole rec ws =
+    by-asked-whole rec ws (λ v. hundred (verdictPercent v) ≡ complete v) (λ a. refl) (λ a k. refl)
+    (λ a k. percent-of (rec .head) (wholePeriod (rec .head)) (kept rec ws))
 
 -- ---- the lowest tick that is lacking
 
@@ -176,12 +131,11 @@ covered-of true false e f = absurd (true≢false e)
 covered-of false t e f = absurd (false≢true f)
 
 judged-lacking : (n c l m d : ℕ) (k : WideTick) → judged n c l ≡ Lacking m d k → (c ≡ n → ⊥) × (l ≡ k .0)
-judged-lacking n c l m d k = go (eqb n 0) (eqb c n) refl
-  where
-    go : (s t : Bool) → eqb c n ≡ t → cond s Nothing (cond t (Complete n) (Lacking n c (record { 0 = l }))) ≡ Lacking m d k → (c ≡ n → ⊥) × (l ≡ k .0)
-    go true t f e = let z : _≡_ {A = ℕ} 0 1 = cc in let y : ⊥ = omega arith in absurd y
-    go false true f e = let z : _≡_ {A = ℕ} 0 1 = cc in let y : ⊥ = omega arith in absurd y
-    go false false f e = let same : record { 0 = l } ≡ k = cc in (eqb-false c n f, ap (λ (x : WideTick). x .0) same)
+judged-lacking n c l m d k =
+    by-count n c l (λ v. v ≡ Lacking m d k → (c ≡ n → ⊥) × (l ≡ k .0))
+    (λ z e. let clash : _≡_ {A = ℕ} 0 1 = cc in let y : ⊥ = omega arith in absurd y)
+    (λ some f e. let clash : _≡_ {A = ℕ} 0 1 = cc in let y : ⊥ = omega arith in absurd y)
+    (λ some o e. let same : record { 0 = l } ≡ k = cc in (o, ap (λ (x : WideTick). x .0) same))
 
 module _ (h : Head) (w : Stretch) (rs : List Reference) (n c : ℕ) (k : WideTick) (e : verdictOf h w rs ≡ Lacking n c k) where
   lacks : ℕ → Bool

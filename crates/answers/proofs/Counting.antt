@@ -1,12 +1,13 @@
 -- Counts and least numbers of a test. Past every number that passes, the bound makes no difference; a count is full, or 0,
 -- exactly where the test says so of each number; of a range both are found by a difference.
 use mathlib.Core.Path.{_≡_, refl, sym, ap, ap₂, _∙_}
-use mathlib.Core.Bool.{Bool, true, false, cond, _&&_, and-eq-true-iff, true≢false, false≢true}
+use mathlib.Core.Bool.{Bool, true, false, cond, _&&_, true≢false, false≢true}
 use Prim.Native.Nat.{ℕ, zero, suc, _+_, _-_, _≤_, _<_, min}
 use native.Mathlib.Nat.{add-zero, add-suc, add-comm, not-suc-le-zero, le-antisymm}
 use native.Mathlib.Omega.{arith}
-use lib.Dec.{leb, ltb, eqb}
-use borrow.Author.Tests.{leb-true, leb-false, ltb-true, ltb-false, eqb-true, le-leb, lt-leb, lt-ltb, le-ltb, eq-eqb, ne-eqb}
+use lib.Dec.{ltb, eqb}
+use borrow.Author.Tests.{ltb-true, ltb-false, eqb-true, eq-eqb, ne-eqb}
+use Rattle.window.proofs.Ranges.{range-cases}
 use Rattle.answers.specs.Counts.{countBelow, leastBelow}
 use Rattle.answers.specs.Ranges.{inRange}
 
@@ -14,16 +15,18 @@ use Rattle.answers.specs.Ranges.{inRange}
 abbrev pub Below : (ℕ → Bool) → ℕ → Type 0
 Below p m = (k : ℕ) → p k ≡ true → k < m
 
--- two tests that are true together are one
-pub same-test : (s t : Bool) → (s ≡ true → t ≡ true) → (t ≡ true → s ≡ true) → s ≡ t
-same-test true t to back = sym (to refl)
-same-test false true to back = back refl
-same-test false false to back = refl
-
 -- a test that is not true is false
 pub refuted : (t : Bool) → (t ≡ true → ⊥) → t ≡ false
 refuted true n = absurd (n refl)
 refuted false n = refl
+
+-- a number that is not 0
+pub some-of : (n : ℕ) → eqb n 0 ≡ false → 1 ≤ n
+some-of zero e = absurd (true≢false e)
+some-of (suc n) e = omega arith
+
+pub apart : (n : ℕ) → 1 ≤ n → n ≡ 0 → ⊥
+apart n l e = omega arith
 
 -- below one more: below, or there
 at-or-below : {A : Type 0} (k n : ℕ) → k < suc n → (k < n → A) → (k ≡ n → A) → A
@@ -114,8 +117,8 @@ module _ (p : ℕ → Bool) where
   least-is (suc n) k l e none =
       at-or-below k n l
       (λ u.
-      let c : 1 ≤ countBelow p n = count-some n k u e in
-      ap (λ t. cond t (cond (p n) n 0) (leastBelow p n)) (ne-eqb (countBelow p n) 0 (λ z. let y : ⊥ = omega arith in y)) ∙ least-is n k u e none)
+      ap (λ t. cond t (cond (p n) n 0) (leastBelow p n)) (ne-eqb (countBelow p n) 0 (apart (countBelow p n) (count-some n k u e))) ∙
+      least-is n k u e none)
       (λ h.
       let c : countBelow p n ≡ 0 = count-none n (λ j m. none j (omega arith)) in
       ap₂ (λ t u. cond t (cond u n 0) (leastBelow p n)) (eq-eqb (countBelow p n) 0 c) (ap p (sym h) ∙ e) ∙ sym h)
@@ -134,11 +137,7 @@ module _ (p : ℕ → Bool) where
           (1 ≤ countBelow p n → p (leastBelow p n) ≡ true) → p (cond s (cond t n 0) (leastBelow p n)) ≡ true
       go true e true f m ih = f
       go true e false f m ih = let z : countBelow p n ≡ 0 = eqb-true (countBelow p n) 0 e in let y : ⊥ = omega arith in absurd y
-      go false e t f m ih = ih (ne-some (countBelow p n) e)
-        where
-          ne-some : (c : ℕ) → eqb c 0 ≡ false → 1 ≤ c
-          ne-some zero h = absurd (true≢false h)
-          ne-some (suc c) h = omega arith
+      go false e t f m ih = ih (some-of (countBelow p n) e)
 
   pub least-first : (n j : ℕ) → j < leastBelow p n → p j ≡ false
   unfolding leastBelow
@@ -189,35 +188,6 @@ module _ (p q : ℕ → Bool) where
       go false t u v f m each w = at-or-below k n l (λ i. each f k i w) (λ h. absurd (false≢true (sym u ∙ ap p (sym h) ∙ w)))
 
 -- ---- a range
-
-pub in-range : (a b k : ℕ) → a ≤ k → k < b → inRange a b k ≡ true
-in-range a b k l m = ap₂ _&&_ (le-leb a k l) (lt-ltb k b m)
-
-pub before-range : (a b k : ℕ) → k < a → inRange a b k ≡ false
-before-range a b k l = ap (λ t. t && ltb k b) (lt-leb a k l)
-
-pub past-range : (a b k : ℕ) → b ≤ k → inRange a b k ≡ false
-past-range a b k l = go (leb a k)
-  where
-    go : (t : Bool) → (t && ltb k b) ≡ false
-    go true = le-ltb k b l
-    go false = refl
-
-pub range-first : (a b k : ℕ) → inRange a b k ≡ true → a ≤ k
-range-first a b k t = leb-true a k (and-eq-true-iff (leb a k) (ltb k b) .0 t .0)
-
-pub range-last : (a b k : ℕ) → inRange a b k ≡ true → k < b
-range-last a b k t = ltb-true k b (and-eq-true-iff (leb a k) (ltb k b) .0 t .1)
-
--- by where k lies
-pub range-cases : {A : Type 0} (a b k : ℕ) → (inRange a b k ≡ true → a ≤ k → k < b → A) → (inRange a b k ≡ false → k < a → A) →
-    (inRange a b k ≡ false → b ≤ k → A) → A
-range-cases {A} a b k inside under past = go (leb a k) refl (ltb k b) refl
-  where
-    go : (s : Bool) → leb a k ≡ s → (t : Bool) → ltb k b ≡ t → A
-    go true e true f = inside (ap₂ _&&_ e f) (leb-true a k e) (ltb-true k b f)
-    go true e false f = past (ap₂ _&&_ e f) (ltb-false k b f)
-    go false e t f = under (ap (λ s. s && ltb k b) e) (leb-false a k e)
 
 -- THE LAW: a range holds as many numbers as its ends are apart
 pub count-range : (a b n : ℕ) → countBelow (inRange a b) n ≡ min b n - a

@@ -4,7 +4,7 @@ use mathlib.Core.Path.{_≡_, refl, sym, ap, _∙_}
 use mathlib.Core.Bool.{Bool, true, false, cond, false≢true}
 use mathlib.Core.List.{List, [], _∷_}
 use Prim.Native.Nat.{ℕ, zero, suc, _+_, _*_, _≤_, _<_, min, max}
-use native.Mathlib.Nat.{not-suc-le-zero, mul-le-mul-left, mul-one}
+use native.Mathlib.Nat.{not-suc-le-zero}
 use native.Mathlib.Omega.{arith}
 use borrow.Author.Tests.{ltb-true, lt-ltb, eqb-false, ne-eqb}
 use lib.Dec.{eqb}
@@ -13,7 +13,7 @@ use Rattle.runs.specs.declared.Run.{Run}
 use Rattle.runs.specs.Words.{runAt, runsOf, runEnd}
 use Rattle.runs.specs.Shape.{runsShaped, shaped}
 use Rattle.runs.proofs.Opening.{runs-from}
-use Rattle.runs.proofs.Encoded.{Leads, leads, Starts, starts}
+use Rattle.runs.proofs.Encoded.{run-grows, leads, Starts, starts}
 use Rattle.runs.proofs.Tables.{runs-shaped}
 use Rattle.answers.specs.Spans.{touches, beforeFirst, uptoLast}
 
@@ -36,7 +36,7 @@ module _ (t : Run → Bool) where
       let e : eqb (uptoLast t rs) 0 ≡ false = ne-eqb (uptoLast t rs) 0 (λ z. let y : ⊥ = omega arith in y) in
       rw e (omega arith)
 
-  pub passes-inside : (rs : List Run) (j : ℕ) (x : Run) (xs : List Run) → drop j rs ≡ x ∷ xs → t x ≡ true → (beforeFirst t rs ≤ j) × (j < uptoLast t rs)
+  passes-inside : (rs : List Run) (j : ℕ) (x : Run) (xs : List Run) → drop j rs ≡ x ∷ xs → t x ≡ true → (beforeFirst t rs ≤ j) × (j < uptoLast t rs)
   unfolding beforeFirst uptoLast
   passes-inside [] zero x xs e p = let z : _≡_ {A = ℕ} 0 1 = cc in let y : ⊥ = omega arith in absurd y
   passes-inside [] (suc j) x xs e p = let z : _≡_ {A = ℕ} 0 1 = cc in let y : ⊥ = omega arith in absurd y
@@ -59,9 +59,6 @@ module _ (t : Run → Bool) where
 
 -- ---- joined runs
 
-grows : (r : Run) (rs : List Run) → Leads r rs → r .start .0 < runEnd r
-grows r rs l = omega (arith, mul-le-mul-left (r .span .0) (l .some), mul-one (r .span .0), l .lasts)
-
 module _ (a b : ℕ) (some : a < b) where
   t : Run → Bool
   t = touches a b
@@ -72,7 +69,7 @@ module _ (a b : ℕ) (some : a < b) where
   reaches s [] u st o = absurd (o refl)
   reaches s (r ∷ rs) u st o =
       let l = leads r rs u in
-      go (eqb (uptoLast t rs) 0) refl (t r) refl o (grows r rs l) (reaches (runEnd r) rs (l .rest) (starts r rs (l .next)))
+      go (eqb (uptoLast t rs) 0) refl (t r) refl o (run-grows r (l .lasts) (l .some)) (reaches (runEnd r) rs (l .rest) (starts r rs (l .next)))
     where
       go : (v : Bool) → eqb (uptoLast t rs) 0 ≡ v → (w : Bool) → t r ≡ w → (cond v (cond w 1 0) (suc (uptoLast t rs)) ≡ 0 → ⊥) → r .start .0 < runEnd r →
           ((uptoLast t rs ≡ 0 → ⊥) → runEnd r < b) → s < b
@@ -89,7 +86,7 @@ module _ (a b : ℕ) (some : a < b) where
   rest-touch s (r ∷ rs) u st m zero x xs e l =
       let f = leads r rs u in
       let same : r ≡ x = cc in
-      ap t (sym same) ∙ go (eqb (uptoLast t rs) 0) refl (t r) refl l (grows r rs f) (reaches (runEnd r) rs (f .rest) (starts r rs (f .next)))
+      ap t (sym same) ∙ go (eqb (uptoLast t rs) 0) refl (t r) refl l (run-grows r (f .lasts) (f .some)) (reaches (runEnd r) rs (f .rest) (starts r rs (f .next)))
     where
       go : (v : Bool) → eqb (uptoLast t rs) 0 ≡ v → (w : Bool) → t r ≡ w → 0 < cond v (cond w 1 0) (suc (uptoLast t rs)) → r .start .0 < runEnd r →
           ((uptoLast t rs ≡ 0 → ⊥) → runEnd r < b) → t r ≡ true
@@ -100,7 +97,7 @@ module _ (a b : ℕ) (some : a < b) where
           lt-ltb (max (r .start .0) a) (min (runEnd r) b) (omega (arith, st))
   rest-touch s (r ∷ rs) u st m (suc j) x xs e l =
       let f = leads r rs u in
-      rest-touch (runEnd r) rs (f .rest) (starts r rs (f .next)) (omega (arith, grows r rs f, st)) j x xs e (behind-upto t r rs j l)
+      rest-touch (runEnd r) rs (f .rest) (starts r rs (f .next)) (omega (arith, run-grows r (f .lasts) (f .some), st)) j x xs e (behind-upto t r rs j l)
 
   all-touch : (rs : List Run) → runsShaped rs ≡ true → (j : ℕ) (x : Run) (xs : List Run) → drop j rs ≡ x ∷ xs → beforeFirst t rs ≤ j → j < uptoLast t rs → t x ≡ true
   unfolding beforeFirst uptoLast t

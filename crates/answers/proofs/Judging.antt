@@ -1,12 +1,13 @@
 -- The verdict by ranges is the verdict by counts, and what each way of the code answers is the verdict by ranges.
 use mathlib.Core.Path.{_≡_, refl, sym, ap, ap₂, subst, fun-ext, _∙_}
-use mathlib.Core.Bool.{Bool, true, false, cond, _&&_, not, and-eq-true-iff, false≢true}
+use mathlib.Core.Bool.{Bool, true, false, _&&_, not, and-eq-true-iff, false≢true}
 use mathlib.Core.List.{List}
 use Prim.Native.Nat.{ℕ, _-_, _≤_, _<_, min, max}
 use native.Mathlib.Omega.{arith}
-use borrow.Author.Tests.{ltb-true, ltb-false, eq-eqb, ne-eqb}
+use borrow.Author.Tests.{ltb-true, ltb-false}
 use lib.Dec.{ltb}
 use Rattle.units.specs.declared.WideTick.{WideTick}
+use Rattle.units.proofs.Choice.{same-test}
 use Rattle.window.specs.declared.Head.{Head}
 use Rattle.window.specs.declared.Reference.{Reference}
 use Rattle.window.specs.declared.Needed.{Needed}
@@ -14,6 +15,7 @@ use Rattle.window.specs.declared.Needed.the-variants as needed
 use Rattle.window.specs.References.{Each}
 use Rattle.window.specs.Window.{Stretch, tickNeeded}
 use Rattle.window.specs.Ticks.{named, NamesSome, NeededTicks}
+use Rattle.window.proofs.Ranges.{in-range, before-range, past-range, range-cases, range-first, range-last}
 use Rattle.runs.specs.Joining.{Within}
 use Rattle.answers.specs.declared.Verdict.{Verdict}
 use Rattle.answers.specs.declared.Verdict.the-variants.{Nothing, Complete, Lacking}
@@ -21,8 +23,9 @@ use Rattle.answers.specs.Cover.{coveredBy}
 use Rattle.answers.specs.Counts.{countBelow, leastBelow, beyond}
 use Rattle.answers.specs.Judgement.{judged, verdictOf}
 use Rattle.answers.specs.Ranges.{inRange, verdictBy, pastNamed, Reach}
-use Rattle.answers.proofs.Counting.{Below, any-count, any-least, least-is, count-range, in-range, before-range, past-range, range-cases, range-first, range-last, same-test}
+use Rattle.answers.proofs.Counting.{Below, any-count, any-least, least-is, count-range}
 use Rattle.answers.proofs.Covering.{reach-cover, needed-below}
+use Rattle.answers.proofs.Cases.{to-complete, to-lacking}
 
 -- ---- the verdict does not depend on the bound
 
@@ -56,7 +59,7 @@ verdict-ranges h w rs x from to n r i =
 
 -- ---- two ranges
 
-pub ranges-meet : (a b f t k : ℕ) → (inRange a b k && inRange f t k) ≡ inRange (max a f) (min b t) k
+ranges-meet : (a b f t k : ℕ) → (inRange a b k && inRange f t k) ≡ inRange (max a f) (min b t) k
 ranges-meet a b f t k =
     same-test (inRange a b k && inRange f t k) (inRange (max a f) (min b t) k)
     (λ e.
@@ -89,12 +92,7 @@ module _ (a b f t : ℕ) (some : a < b) where
 
   lacking : (c l : ℕ) → min b t - max a f ≡ c → (c ≡ b - a → ⊥) → leastBelow lacks b ≡ l → Lacking (b - a) c (record { 0 = l }) ≡ verdictBy (inRange a b) (inRange f t) b
   lacking c l e n m =
-      sym
-      (by-counts ∙
-      ap₂ (judged (b - a)) e m ∙
-      ap₂ (λ u v. cond u Nothing (cond v (Complete (b - a)) (Lacking (b - a) c (record { 0 = l }))))
-      (ne-eqb (b - a) 0 (λ z. let y : ⊥ = omega arith in y))
-      (ne-eqb c (b - a) n))
+      sym (by-counts ∙ ap₂ (judged (b - a)) e m ∙ to-lacking (b - a) c l (omega arith) n)
 
   -- a itself is lacking where it is not covered
   least-first : inRange f t a ≡ false → leastBelow lacks b ≡ a
@@ -112,9 +110,7 @@ module _ (a b f t : ℕ) (some : a < b) where
     all-covered e =
         sym
         (by-counts ∙
-        ap₂ (λ u v. cond u Nothing (cond v (Complete (b - a)) (Lacking (b - a) (min b t - max a f) (record { 0 = leastBelow lacks b }))))
-        (ne-eqb (b - a) 0 (λ z. let y : ⊥ = omega arith in y))
-        (eq-eqb (min b t - max a f) (b - a) (ap₂ _-_ (sym eh) (sym el) ∙ e)))
+        to-complete (b - a) (min b t - max a f) (leastBelow lacks b) (omega arith) (ap₂ _-_ (sym eh) (sym el) ∙ e))
 
     module _ (n : high - low ≡ b - a → ⊥) where
       pub first-lacking : a < low → Lacking (b - a) (high - low) (record { 0 = a }) ≡ verdictBy (inRange a b) (inRange f t) b

@@ -2,6 +2,7 @@
 pub mod Guards
 pub mod Counting
 pub mod Covering
+pub mod Cases
 pub mod Judging
 pub mod Agreed
 pub mod Percents

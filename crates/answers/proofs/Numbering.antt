@@ -1,9 +1,9 @@
 -- References by their numbers: a number is found run by run, and a difference of numbers is a place in the list.
 use mathlib.Core.Path.{_≡_, refl, sym, ap, ap₂, subst⁻¹, _∙_}
-use mathlib.Core.Bool.{Bool, true, false, cond, _&&_, and-eq-true-iff}
+use mathlib.Core.Bool.{Bool, true, false, cond}
 use mathlib.Core.List.{List, [], _∷_, _++_}
 use Prim.Native.Nat.{ℕ, zero, suc, _+_, _-_, _*_, _≤_, _<_}
-use native.Mathlib.Nat.{add-zero, add-suc, sub-zero, mul-le-mul-left}
+use native.Mathlib.Nat.{add-zero, add-suc, sub-zero}
 use native.Mathlib.Omega.{arith}
 use borrow.Author.Tests.{eqb-true, eqb-false, eq-eqb, ne-eqb}
 use lib.Dec.{eqb}
@@ -14,19 +14,18 @@ use Rattle.window.specs.declared.Reference.{Reference}
 use Rattle.window.specs.References.{Each}
 use Rattle.runs.specs.declared.Run.{Run}
 use Rattle.runs.specs.Words.{runAt, runsOf, repeated, referencesOf, keptIn}
-use Rattle.runs.specs.Shape.{runHeld, follows, runsShaped, shaped}
+use Rattle.runs.specs.Shape.{runHeld, runsShaped, shaped}
 use Rattle.runs.specs.Joining.{Within}
 use Rattle.runs.proofs.Opening.{run-opens, repeated-length}
-use Rattle.runs.proofs.Encoded.{leads, ref}
+use Rattle.runs.proofs.Encoded.{first-held, leads, ref}
 use Rattle.runs.proofs.Tables.{used-words, runs-shaped}
 use Rattle.agreement.specs.declared.Record.{Record}
 use Rattle.agreement.specs.Agreement.{agrees, kept}
-use Rattle.agreement.proofs.Runs.{run-facts}
+use Rattle.agreement.proofs.Agreeing.{agreeing}
 use Rattle.answers.specs.declared.Numbered.{Numbered}
 use Rattle.answers.specs.declared.Numbered.the-variants.{Kept, Missing}
 use Rattle.answers.specs.Available.{numbered, keptNumber}
 use Rattle.answers.specs.Steps.{FoundWithin, behind}
-use Rattle.answers.proofs.Agreed.{counts-held}
 
 -- ---- numbers and places
 
@@ -96,22 +95,6 @@ found-within m n (r ∷ rs) w = go (eqb m n) (found-within (suc m) n rs (w .1))
 pub is-within : (m n : ℕ) (rs : List Reference) (x : Numbered) → Each Within rs → x ≡ numbered m rs n → FoundWithin x
 is-within m n rs x w e = subst⁻¹ FoundWithin e (found-within m n rs w)
 
--- ---- a reference of a run
-
-pub first-held : (r : Run) (rs : List Run) → runsShaped (r ∷ rs) ≡ true → runHeld r ≡ true
-unfolding runsShaped
-first-held r rs u = and-eq-true-iff (runHeld r) (follows r rs) .0 (and-eq-true-iff (runHeld r && follows r rs) (runsShaped rs) .0 u .0) .0
-
-module _ (r : Run) (n : ℕ) (held : runHeld r ≡ true) (l : n < r .count) where
-  before-end : r .span .0 * n ≤ r .span .0 * r .count
-  before-end = mul-le-mul-left (r .span .0) (omega arith)
-
-  pub behind-fits : Fits w64 (r .span .0 * n)
-  behind-fits = record { fits = omega (arith, run-facts r held .ends, before-end) }
-
-  pub behind-sum-fits : Fits w64 (r .start .0 + r .span .0 * n)
-  behind-sum-fits = record { fits = omega (arith, run-facts r held .ends, before-end) }
-
 -- ---- the walk
 
 pub record Seeking (ws : List ℕ) (used n i left skip : ℕ) : Type 0 where
@@ -176,8 +159,8 @@ module _ (ws : List ℕ) (used n i left skip : ℕ) (p : Seeking ws used n i lef
 module _ (rec : Record) (ws : List ℕ) (a : agrees rec ws ≡ true) where
   pub first-fits : Fits w64 (rec .head .first .0 + rec .dropped)
   first-fits =
-      let held = counts-held rec ws a in
-      record { fits = omega (arith, held .few, held .numbers) }
+      let held = agreeing rec ws a .held in
+      record { fits = omega (arith, held .dropped, held .numbers) }
 
   pub number-under : (n : ℕ) → n < rec .head .first .0 + rec .dropped → Missing ≡ keptNumber rec ws n
   number-under n l = sym (under (rec .head .first .0 + rec .dropped) n (kept rec ws) l)

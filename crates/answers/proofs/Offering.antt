@@ -1,4 +1,5 @@
--- The points of availability, moved on by the offset: naturals that the code adds up, and signed grains that the definitions name.
+-- The points of availability, moved on by the offset: naturals that the code adds up, and signed grains that the
+-- definitions name.
 use mathlib.Core.Path.{_≡_, sym, ap, ap₂, subst, _∙_}
 use mathlib.Core.Bool.{Bool, true, false, cond, _&&_}
 use Prim.Native.Nat.{ℕ, _+_, _*_, _≤_, _<_}

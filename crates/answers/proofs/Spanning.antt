@@ -1,9 +1,9 @@
 -- The runs that touch a span: the first from the front, the last from the back, and between them every one.
 use mathlib.Core.Path.{_≡_, refl, sym, ap, ap₂, subst, subst⁻¹, _∙_}
-use mathlib.Core.Bool.{Bool, true, false, cond, _&&_}
+use mathlib.Core.Bool.{Bool, true, false, cond}
 use mathlib.Core.List.{List, [], _∷_, _++_}
 use Prim.Native.Nat.{ℕ, zero, suc, _+_, _-_, _*_, _^_, _≤_, _<_, min, max}
-use native.Mathlib.Nat.{add-zero, mul-le-mul-left, mul-one}
+use native.Mathlib.Nat.{add-zero}
 use native.Mathlib.Omega.{arith}
 use borrow.Author.Tests.{ltb-true, ltb-false, lt-ltb, le-ltb, eqb-false, ne-eqb}
 use lib.Dec.{ltb, eqb}
@@ -15,27 +15,23 @@ use Rattle.runs.specs.declared.Run.{Run}
 use Rattle.runs.specs.Words.{runAt, runsOf, runEnd}
 use Rattle.runs.specs.Shape.{runHeld, runsShaped, shaped}
 use Rattle.runs.proofs.Opening.{runs-length, runs-from}
-use Rattle.runs.proofs.Encoded.{leads}
+use Rattle.runs.proofs.Encoded.{run-facts, run-grows, first-held, shaped-drop}
 use Rattle.runs.proofs.Tables.{used-words, runs-shaped}
 use Rattle.agreement.specs.declared.Record.{Record}
 use Rattle.agreement.specs.declared.refusal.Refusal.the-variants.{Disagreement, EmptySpan}
 use Rattle.agreement.specs.Agreement.{agrees}
 use Rattle.agreement.proofs.Agreeing.{agree-shaped}
-use Rattle.agreement.proofs.Runs.{run-facts}
 use Rattle.answers.specs.declared.Touching.{Touching}
 use Rattle.answers.specs.declared.Touching.the-variants.{Words, Refused}
 use Rattle.answers.specs.Spans.{touches, beforeFirst, uptoLast, touchedWords, touchingWords, partOf}
 use Rattle.answers.specs.Steps.{InTable}
 use Rattle.answers.proofs.Guards.{same, other}
-use Rattle.answers.proofs.Numbering.{first-held}
 
 -- ---- one run
 
 module _ (r : Run) (a b : ℕ) (held : runHeld r ≡ true) (l : a < b) where
   run-some : r .start .0 < runEnd r
-  run-some =
-      let f = run-facts r held in
-      omega (arith, mul-le-mul-left (r .span .0) (f .some), mul-one (r .span .0), f .lasts)
+  run-some = let f = run-facts r held in run-grows r (f .lasts) (f .some)
 
   pub touch-past : b ≤ r .start .0 → false ≡ touches a b r
   touch-past m = sym (le-ltb (max (r .start .0) a) (min (runEnd r) b) (omega arith))
@@ -47,14 +43,6 @@ module _ (r : Run) (a b : ℕ) (held : runHeld r ≡ true) (l : a < b) where
       go : (t : Bool) → ltb a (runEnd r) ≡ t → t ≡ touches a b r
       go true e = let k : a < runEnd r = ltb-true a (runEnd r) e in sym (lt-ltb (max (r .start .0) a) (min (runEnd r) b) (omega (arith, run-some)))
       go false e = let k : runEnd r ≤ a = ltb-false a (runEnd r) e in sym (le-ltb (max (r .start .0) a) (min (runEnd r) b) (omega arith))
-
-  -- of a held run and a span that is not empty: it starts before b and ends after a
-  pub touches-by : touches a b r ≡ (ltb (r .start .0) b && ltb a (runEnd r))
-  touches-by = go (ltb (r .start .0) b) refl
-    where
-      go : (t : Bool) → ltb (r .start .0) b ≡ t → touches a b r ≡ (t && ltb a (runEnd r))
-      go true e = sym (touch-is (ltb-true (r .start .0) b e))
-      go false e = sym (touch-past (ltb-false (r .start .0) b e))
 
 -- ---- the first and the last of a list
 
@@ -106,11 +94,6 @@ module _ (t : Run → Bool) where
 
 -- ---- runs of a table
 
-shaped-from : (j : ℕ) (rs : List Run) → runsShaped rs ≡ true → runsShaped (drop j rs) ≡ true
-shaped-from zero rs u = u
-shaped-from (suc j) [] u = u
-shaped-from (suc j) (r ∷ rs) u = shaped-from j rs (leads r rs u .rest)
-
 fewer : (n : ℕ) (ws : List ℕ) → take n (runsOf (suc n) ws) ≡ runsOf n ws
 unfolding runsOf
 fewer zero ws = refl
@@ -123,15 +106,11 @@ run-end n ws =
     sym (take-append-drop n (runsOf (suc n) ws)) ∙
     ap₂ _++_ (fewer n ws) (runs-from (suc n) n ws (omega arith) ∙ ap (λ rs. runAt ws (n * 3) ∷ rs) none)
 
-module _ (ws : List ℕ) (used : ℕ) (sh : shaped used ws ≡ true) where
-  pub span-room : (j : ℕ) → j < used → j * 3 + 2 < length ws
-  span-room j l = omega (arith, used-words used ws sh)
-
-  pub span-held : (j : ℕ) (x : Run) → j < used → x ≡ runAt ws (j * 3) → runHeld x ≡ true
-  span-held j x l e =
-      ap runHeld e ∙
-      first-held (runAt ws (j * 3)) (drop (j + 1) (runsOf used ws))
-      (ap runsShaped (sym (runs-from used j ws l)) ∙ shaped-from j (runsOf used ws) (runs-shaped used ws sh))
+pub span-held : (ws : List ℕ) (used : ℕ) → shaped used ws ≡ true → (j : ℕ) (x : Run) → j < used → x ≡ runAt ws (j * 3) → runHeld x ≡ true
+span-held ws used sh j x l e =
+    ap runHeld e ∙
+    first-held (runAt ws (j * 3)) (drop (j + 1) (runsOf used ws))
+    (ap runsShaped (sym (runs-from used j ws l)) ∙ shaped-drop j (runsOf used ws) (runs-shaped used ws sh))
 
 -- ---- the walk from the front
 

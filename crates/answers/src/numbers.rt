@@ -37,9 +37,9 @@ fn nth(table: &[u64], used: usize, n: u64) -> Numbered
         if skip < run.count {
             return Numbered::Kept(in_run(run, skip));
         }
-        skip = skip - run.count;
-        i = i + 3;
-        left = left - 1;
+        skip -= run.count;
+        i += 3;
+        left -= 1;
     }
     Numbered::Missing
 }

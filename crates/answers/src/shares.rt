@@ -16,12 +16,12 @@ fn hundredths(covered: u64, needed: u64) -> u64
     let mut left: u64 = 0;
     let mut i: u64 = 0;
     while i < 100 {
-        i = i + 1;
+        i += 1;
         if left < short {
-            left = left + covered;
+            left += covered;
         } else {
-            left = left - short;
-            whole = whole + 1;
+            left -= short;
+            whole += 1;
         }
     }
     whole

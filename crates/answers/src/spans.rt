@@ -36,7 +36,7 @@ fn before_first(table: &[u64], used: usize, a: WideTick, b: WideTick) -> usize
         if run_touches(run, a, b) {
             return j;
         }
-        j = j + 1;
+        j += 1;
     }
     j
 }
@@ -52,7 +52,7 @@ fn upto_last(table: &[u64], used: usize, a: WideTick, b: WideTick) -> usize
         if run_touches(run, a, b) {
             return left;
         }
-        left = left - 1;
+        left -= 1;
     }
     0
 }

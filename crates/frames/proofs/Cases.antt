@@ -1,5 +1,5 @@
 -- A frame and its kind with its values determine each other: what a new kind adds a case to.
--- Assumes nothing.
+--
 use mathlib.Core.Path.{_≡_, refl, sym, _∙_, ap, subst}
 use mathlib.Core.Bool.{Bool, true, false, false≢true}
 use mathlib.Core.List.{List, [], _∷_}

@@ -1,5 +1,6 @@
--- A line and its frame: a fitting frame written then read is the same frame, a line that is a frame read then written is the same line, and
--- two fitting frames with one line are equal. They follow from the laws on rows of widths whatever the kinds are. Assumes nothing.
+-- A line and its frame: a fitting frame written then read is the same frame, a line that is a frame read then written is the
+-- same line, and two fitting frames with one line are equal. They follow from the laws on rows of widths whatever the kinds
+-- are.
 use mathlib.Core.Path.{_≡_, refl, sym, _∙_, ap, ap₂}
 use mathlib.Core.Logic.{_↔_}
 use mathlib.Core.Bool.{Bool, true, false, false≢true}
@@ -18,7 +19,7 @@ use Rattle.frames.specs.declared.Frame.the-variants.{Bad}
 use Rattle.frames.proofs.Cases.{not-frame, from-frame, kind-below, kind-from, length-within, values-from}
 use Rattle.frames.proofs.Rows.{fit-length, length-values, length-fields, fields-are-digits, fields-read-fit, fields-written-read, fields-read-written}
 
-pub line-digits : (f : Frame) → areDigits (lineOf f) ≡ true
+line-digits : (f : Frame) → areDigits (lineOf f) ≡ true
 unfolding lineOf
 line-digits f = fields-are-digits (lineWidths (kindOf f)) (kindOf f ∷ valuesOf f)
 

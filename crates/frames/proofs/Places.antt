@@ -1,5 +1,5 @@
 -- Where a loop over a row of widths stands: before field i, with the digits of the fields before it passed.
--- Assumes nothing.
+--
 use mathlib.Core.Path.{_≡_}
 use mathlib.Core.List.{List, _∷_}
 use Prim.Native.Nat.{ℕ, _+_, _*_, _^_, _≤_, _<_}

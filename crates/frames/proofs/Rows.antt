@@ -1,7 +1,7 @@
--- The fields of a line, once over the row of widths: written then read are the values, read then written are the digits. Every kind of frame
--- is an instance. Assumes nothing.
+-- The fields of a line, once over the row of widths: written then read are the values, read then written are the digits.
+-- Every kind of frame is an instance.
 use mathlib.Core.Path.{_≡_, refl, sym, _∙_, ap, ap₂}
-use mathlib.Core.Bool.{true, _&&_}
+use mathlib.Core.Bool.{true, _&&_, and-eq-true-iff}
 use mathlib.Core.List.{List, [], _∷_, _++_}
 use Prim.Native.Nat.{ℕ, suc, _+_, _*_}
 use native.Mathlib.Nat.{lt-of-lt-of-le, pow-le-pow-right}
@@ -9,7 +9,6 @@ use native.Mathlib.Omega.{arith}
 use lib.ListN.{length, take, drop, length-append, length-take, length-drop, take-append-drop}
 use lib.Seq.{take-at, drop-at, length-take-le}
 use Rattle.hex.specs.Digits.{areDigits, numberOf, digitsOf}
-use Rattle.hex.proofs.Single.{and-left, and-right}
 use Rattle.hex.proofs.Widths.{length-digits, digits-are-digits, number-below, digits-written-read, digits-read-written, digits-joined}
 use Rattle.frames.specs.Fields.{digitCount, fieldDigits, fieldValues, Fit}
 
@@ -70,12 +69,14 @@ fields-read-written [] [] d e = refl
 fields-read-written [] (x ∷ ds) d e = let z : ⊥ = omega arith in absurd z
 fields-read-written (w ∷ ws) ds d e =
     let n = 2 * w in
-    let both : (areDigits (take n ds) && areDigits (drop n ds)) ≡ true =
-    sym (digits-joined (take n ds) (drop n ds)) ∙ ap areDigits (take-append-drop n ds) ∙ d in
+    let both =
+    and-eq-true-iff (areDigits (take n ds)) (areDigits (drop n ds)) .0
+    (sym (digits-joined (take n ds) (drop n ds)) ∙ ap areDigits (take-append-drop n ds) ∙ d)
+    in
     let first : digitsOf n (numberOf (take n ds)) ≡ take n ds =
     ap (λ (m : ℕ). digitsOf m (numberOf (take n ds))) (sym (length-take-le n ds (omega arith))) ∙
-    digits-read-written (take n ds) (and-left (areDigits (take n ds)) (areDigits (drop n ds)) both) in
+    digits-read-written (take n ds) (both .0) in
     ap₂ _++_ first
-    (fields-read-written ws (drop n ds) (and-right (areDigits (take n ds)) (areDigits (drop n ds)) both)
+    (fields-read-written ws (drop n ds) (both .1)
     (rw (length-drop n ds) (omega arith))) ∙
     take-append-drop n ds

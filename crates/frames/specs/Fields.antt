@@ -1,4 +1,5 @@
--- The fields of a line stand one after another, each over its own width in bytes, as big-endian hexadecimal digits, two to a byte. (The file)
+-- The fields of a line stand one after another, each over its own width in bytes, as big-endian hexadecimal digits, two to a
+-- byte. Paper: The file.
 use mathlib.Core.List.{List, [], _∷_, _++_}
 use Prim.Native.Nat.{ℕ, _+_, _*_, _^_, _≤_, _<_}
 use lib.ListN.{take, drop}

@@ -1,5 +1,6 @@
--- A line of the file is one frame: the byte of its kind, then the fields of that kind over the widths of the paper's table, and a line feed after
--- it. A line that is too short or too long for its kind, is not of lower-case hexadecimal digits, or is of no known kind, is no frame. (The file)
+-- A line of the file is one frame: the byte of its kind, then the fields of that kind over the widths of the paper's table,
+-- and a line feed after it. A line that is too short or too long for its kind, is not of lower-case hexadecimal digits, or is
+-- of no known kind, is no frame. Paper: The file.
 use mathlib.Core.Path.{_≡_}
 use mathlib.Core.Bool.{Bool, true, false, cond}
 use mathlib.Core.List.{List, [], _∷_, _++_}
@@ -88,8 +89,8 @@ pub record Written (f : Frame) (before after : List ℕ) (n : ℕ) : Type 0 wher
 unfoldable pub frameAs : ℕ → List ℕ → Frame
 frameAs k line = frameFrom k (fieldValues (widthsOf k) (drop 2 line))
 
--- what frame a line is: its first byte says its kind, and the kind its length and its fields. proofs/Lines.antt has the laws that it is exactly
--- the frame that fits and has this line
+-- what frame a line is: its first byte says its kind, and the kind its length and its fields. proofs/Lines.antt has the laws
+-- that it is exactly the frame that fits and has this line
 abbrev pub kindAt : List ℕ → ℕ
 kindAt line = numberOf (take 2 line)
 

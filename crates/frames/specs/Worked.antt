@@ -1,4 +1,5 @@
--- The whole file of case B after its trim at 18,000, line by line: each line is the frame that the paper means by it. (The file; By hand, B)
+-- The whole file of case B after its trim at 18,000, line by line: each line is the frame that the paper means by it.
+-- Paper: The file; By hand, B.
 use mathlib.Core.Path.{_≡_, refl}
 use mathlib.Core.List.{List, [], _∷_}
 use Prim.Native.Nat.{ℕ}

@@ -5,7 +5,8 @@ ghost use Prim.Native.Nat.{_+_, _≤_, _<_};
 ghost use lib.ListN.{length, drop};
 ghost use Rattle.frames.specs.Fields.{digitCount, fieldDigits, fieldValues, Narrow};
 
-// Inner: the line has the digits of the row, no field is wider than a word, and there is a place for each value: so it is for every kind.
+// Inner: the line has the digits of the row, no field is wider than a word, and there is a place for
+// each value: so it is for every kind.
 pub(crate) fn read_fields(line: &[u8], widths: &[usize], values: &mut [u64])
     requires { ⌜ (digitCount (now widths) ≤ length (now line)) × (Narrow (now widths)) × (length (now values) ≡ length (now widths)) ⌝ }
     ensures { λ _. ⌜ now (values .exit) ≡ fieldValues (now (widths .entry)) (now (line .entry)) ⌝ }

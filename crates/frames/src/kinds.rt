@@ -1,4 +1,5 @@
-// The kinds of line: the row of widths of each, the byte of the kind first, and how the values of a line make a frame.
+// The kinds of line: the row of widths of each, the byte of the kind first, and how the values of a
+// line make a frame.
 ghost use mathlib.Core.Path.{_≡_};
 ghost use lib.ListN.{length};
 ghost use Rattle.frames.specs.Frames.{lineLength, frameAs};
@@ -21,7 +22,8 @@ pub(crate) const END_WIDTHS: [usize; 2] = [1, 4];
 
 pub(crate) const CLOCK_WIDTHS: [usize; 2] = [1, 8];
 
-// Inner: the line has as many digits as its kind asks, which `read_line` tests. The frame that its values make.
+// Inner: the line has as many digits as its kind asks, which `read_line` tests. The frame that its
+// values make.
 pub(crate) fn frame_of_kind(kind: u64, line: &[u8]) -> Frame
     requires { ⌜ length (now line) ≡ lineLength kind ⌝ }
     ensures { λ r. ⌜ r ≡ frameAs kind (now (line .entry)) ⌝ }

@@ -12,7 +12,8 @@ use units::Span;
 use units::WideTick;
 use window::Head;
 
-// The fields of an S line as they stand in the file: what an absent t and a negative r mean is judged above.
+// The fields of an S line as they stand in the file: what an absent t and a negative r mean is
+// judged above.
 pub struct SFields {
     pub t: WideTick,
     pub d: Span,
@@ -58,7 +59,8 @@ pub fn read_line(line: &[u8]) -> Frame
     kinds::frame_of_kind(kind, line)
 }
 
-// Inner: the frame is one that fits its widths, and the output has room for its line and feed. Writes both at the front; the length written.
+// Inner: the frame is one that fits its widths, and the output has room for its line and feed.
+// Writes both at the front; the length written.
 pub fn write_line(out: &mut [u8], frame: Frame) -> usize
     requires { ⌜ (Fits frame) × (lineLength (kindOf frame) < length (now out)) ⌝ }
     ensures { λ r. ⌜ Written frame (now (out .entry)) (now (out .exit)) r ⌝ }

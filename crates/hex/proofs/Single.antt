@@ -1,20 +1,11 @@
 -- One digit: a value below 16 and the byte that means it determine each other.
--- Assumes nothing.
 use mathlib.Core.Path.{_≡_, refl, sym, _∙_}
-use mathlib.Core.Bool.{Bool, true, false, _&&_, false≢true}
+use mathlib.Core.Bool.{Bool, true, false, and-false, and-eq-true-iff, false≢true}
 use Prim.Native.Nat.{ℕ, _+_, _-_, _≤_, _<_}
 use native.Mathlib.Omega.{arith}
 use lib.Dec.{leb, ltb}
 use borrow.Author.Tests.{lt-ltb, le-ltb, le-leb, lt-leb, ltb-true, ltb-false, leb-true}
 use Rattle.hex.specs.Digits.{between, isDecimal, isLetter, isDigit, valueOf, digitOf}
-
-pub and-left : (a b : Bool) → (a && b) ≡ true → a ≡ true
-and-left true b e = refl
-and-left false b e = e
-
-pub and-right : (a b : Bool) → (a && b) ≡ true → b ≡ true
-and-right true b e = e
-and-right false b e = absurd (false≢true e)
 
 module _ (low high b : ℕ) where
   pub between-from : low ≤ b → between low high b ≡ leb b high
@@ -30,19 +21,15 @@ module _ (low high b : ℕ) where
 
   pub between-over : high < b → between low high b ≡ false
   unfolding between
-  between-over h = simp (lt-leb b high h) (and-no (leb low b))
-    where
-      and-no : (t : Bool) → (t && false) ≡ false
-      and-no true = refl
-      and-no false = refl
+  between-over h = simp (lt-leb b high h) (and-false (leb low b))
 
   between-low : between low high b ≡ true → low ≤ b
   unfolding between
-  between-low e = leb-true low b (and-left (leb low b) (leb b high) e)
+  between-low e = leb-true low b (and-eq-true-iff (leb low b) (leb b high) .0 e .0)
 
   between-high : between low high b ≡ true → b ≤ high
   unfolding between
-  between-high e = leb-true b high (and-right (leb low b) (leb b high) e)
+  between-high e = leb-true b high (and-eq-true-iff (leb low b) (leb b high) .0 e .1)
 
 module _ (b : ℕ) where
   pub value-decimal : 48 ≤ b → b ≤ 57 → valueOf b ≡ b - 48

@@ -1,7 +1,6 @@
 -- Digits and numbers, once over the width: written then read is the number, read then written are the digits.
--- Assumes nothing.
 use mathlib.Core.Path.{_≡_, refl, sym, _∙_, ap, ap₂}
-use mathlib.Core.Bool.{Bool, true, _&&_, and-assoc}
+use mathlib.Core.Bool.{Bool, true, _&&_, and-assoc, and-eq-true-iff}
 use mathlib.Core.List.{List, [], _∷_, _++_}
 use Prim.Native.Nat.{ℕ, zero, suc, _+_, _*_, _/_, _%_, _^_, _<_}
 use native.Mathlib.Nat.{pow-succ', one-le-pow, mod-lt, mod-one, mod-eq-of-lt, div-one, div-div-eq-div-mul}
@@ -9,7 +8,7 @@ use native.Mathlib.Omega.{arith}
 use lib.Arith.{mod-mul, digits-lt, digits-div, digits-mod}
 use lib.ListN.{length, getD}
 use Rattle.hex.specs.Digits.{isDigit, valueOf, digitOf, areDigits, numberOf, digitsOf}
-use Rattle.hex.proofs.Single.{and-left, and-right, value-below, digit-of-value, value-of-digit, digit-is-digit}
+use Rattle.hex.proofs.Single.{value-below, digit-of-value, value-of-digit, digit-is-digit}
 
 positive : (n : ℕ) → 0 < 16 ^ n
 positive n = one-le-pow n 16 (omega arith)
@@ -55,22 +54,23 @@ module _ (a b : ℕ) {m r s : ℕ} (h : r < m) (k : s < m) (e : a * m + r ≡ b 
   one-rest = sym (digits-mod a h) ∙ ap (λ (x : ℕ). x % m) e ∙ digits-mod b k
 
 -- digits of one length and one number are the same
-pub same-digits : (xs ys : List ℕ) → areDigits xs ≡ true → areDigits ys ≡ true → length xs ≡ length ys → numberOf xs ≡ numberOf ys → xs ≡ ys
+same-digits : (xs ys : List ℕ) → areDigits xs ≡ true → areDigits ys ≡ true → length xs ≡ length ys → numberOf xs ≡ numberOf ys → xs ≡ ys
 unfolding areDigits numberOf
 same-digits [] [] p q e n = refl
 same-digits [] (y ∷ ys) p q e n = let z : ⊥ = omega arith in absurd z
 same-digits (x ∷ xs) [] p q e n = let z : ⊥ = omega arith in absurd z
 same-digits (x ∷ xs) (y ∷ ys) p q e n =
+    let a = and-eq-true-iff (isDigit x) (areDigits xs) .0 p in
+    let b = and-eq-true-iff (isDigit y) (areDigits ys) .0 q in
     let l : length xs ≡ length ys = omega arith in
     let k : numberOf ys < 16 ^ length xs = rw l (number-below ys) in
     let s : valueOf x * 16 ^ length xs + numberOf xs ≡ valueOf y * 16 ^ length xs + numberOf ys =
     n ∙ ap (λ (m : ℕ). valueOf y * 16 ^ m + numberOf ys) (sym l) in
     ap₂ _∷_
-    (sym (digit-of-value x (and-left (isDigit x) (areDigits xs) p)) ∙
+    (sym (digit-of-value x (a .0)) ∙
     ap digitOf (one-quotient (valueOf x) (valueOf y) (number-below xs) k s) ∙
-    digit-of-value y (and-left (isDigit y) (areDigits ys) q))
-    (same-digits xs ys (and-right (isDigit x) (areDigits xs) p) (and-right (isDigit y) (areDigits ys) q) l
-    (one-rest (valueOf x) (valueOf y) (number-below xs) k s))
+    digit-of-value y (b .0))
+    (same-digits xs ys (a .1) (b .1) l (one-rest (valueOf x) (valueOf y) (number-below xs) k s))
 
 -- read then written are the digits
 pub digits-read-written : (ds : List ℕ) → areDigits ds ≡ true → digitsOf (length ds) (numberOf ds) ≡ ds
@@ -88,8 +88,8 @@ digits-joined (x ∷ xs) ys = ap (λ (t : Bool). isDigit x && t) (digits-joined 
 pub digit-at : (ds : List ℕ) (i : ℕ) → areDigits ds ≡ true → i < length ds → isDigit (getD ds i 0) ≡ true
 unfolding areDigits
 digit-at [] i e h = let z : ⊥ = omega arith in absurd z
-digit-at (d ∷ ds) zero e h = and-left (isDigit d) (areDigits ds) e
-digit-at (d ∷ ds) (suc i) e h = digit-at ds i (and-right (isDigit d) (areDigits ds) e) (omega arith)
+digit-at (d ∷ ds) zero e h = and-eq-true-iff (isDigit d) (areDigits ds) .0 e .0
+digit-at (d ∷ ds) (suc i) e h = digit-at ds i (and-eq-true-iff (isDigit d) (areDigits ds) .0 e .1) (omega arith)
 
 -- the last digit is the remainder by 16, and those before it are the quotient's
 pub digits-last : (n x : ℕ) → digitsOf (suc n) x ≡ digitsOf n (x / 16) ++ (digitOf (x % 16) ∷ [])

@@ -1,5 +1,5 @@
--- Numbers stand in the file as lower-case hexadecimal digits, big-endian: the bytes '0' to '9' and 'a' to 'f' mean 0 to 15, and each digit
--- counts sixteen times the one after it. (The file)
+-- Numbers stand in the file as lower-case hexadecimal digits, big-endian: the bytes '0' to '9' and 'a' to 'f' mean 0 to 15,
+-- and each digit counts sixteen times the one after it. Paper: The file.
 use mathlib.Core.Bool.{Bool, true, cond, _&&_, _||_}
 use mathlib.Core.List.{List, [], _∷_}
 use Prim.Native.Nat.{ℕ, zero, suc, _+_, _-_, _*_, _/_, _%_, _^_}

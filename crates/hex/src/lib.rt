@@ -34,7 +34,8 @@ pub fn number(s: &[u8]) -> u64
     n
 }
 
-// Writes the last digits of x over the whole part, as many as it has room for. They come from the end: each is the remainder of what is left.
+// Writes the last digits of x over the whole part, as many as it has room for. They come from the
+// end: each is the remainder of what is left.
 pub fn write_digits(s: &mut [u8], x: u64)
     ensures { λ _. ⌜ now (s .exit) ≡ digitsOf (length (now (s .entry))) x ⌝ }
 {
@@ -43,7 +44,7 @@ pub fn write_digits(s: &mut [u8], x: u64)
     while done < s.len() {
         let at = s.len() - 1 - done;
         s[at] = digit::digit_of(rest % 16);
-        rest = rest / 16;
+        rest /= 16;
         done += 1;
     }
 }

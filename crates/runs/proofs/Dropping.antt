@@ -6,7 +6,7 @@ use native.Mathlib.Nat.{mul-sub, mul-le-mul-left, le-of-lt}
 use native.Mathlib.Omega.{arith}
 use mathlib.Core.List.{List, [], _∷_, _++_}
 use lib.ListN.{length, take, drop, replicate, length-append, length-take, length-drop, take-append-drop, replicate-append-replicate}
-use lib.Seq.{take-at, drop-at, drop-append-add, drop-append-le, drop-drop, drop-nil, take-nil}
+use lib.Seq.{take-at, drop-at, drop-append-add, drop-append-le, drop-drop, drop-nil}
 use borrow.Rule.Slice.PartMut.{midOf, putMid, post-is, mid-len}
 use Rattle.units.specs.declared.Span.{Span}
 use Rattle.units.specs.Limits.{largestTick}
@@ -90,7 +90,7 @@ less-made n x l =
       count = omega arith;
     }
 
-pub less-shaped : (n : ℕ) (x r : Run) (xs : List Run) → Less n x r → n < x .count → runsShaped (x ∷ xs) ≡ true → runsShaped (r ∷ xs) ≡ true
+less-shaped : (n : ℕ) (x r : Run) (xs : List Run) → Less n x r → n < x .count → runsShaped (x ∷ xs) ≡ true → runsShaped (r ∷ xs) ≡ true
 less-shaped n x r xs f l t =
     let o = leads x xs t in
     led r xs
@@ -103,7 +103,7 @@ less-shaped n x r xs f l t =
       rest = o .rest;
     })
 
-pub less-references : (n : ℕ) (x r : Run) (xs : List Run) → Less n x r → referencesOf (r ∷ xs) ≡ drop n (referencesOf (x ∷ xs))
+less-references : (n : ℕ) (x r : Run) (xs : List Run) → Less n x r → referencesOf (r ∷ xs) ≡ drop n (referencesOf (x ∷ xs))
 unfolding referencesOf
 less-references n x r xs f =
     let l : n ≤ x .count = omega (arith, f .count) in
@@ -119,46 +119,13 @@ less-references n x r xs f =
 
 -- ---- the references left are those behind the cut
 
-pub cut-left : (gone whole into : ℕ) (rs : List Run) → CutAt gone rs whole into → drop into (referencesOf (drop whole rs)) ≡ drop gone (referencesOf rs)
+cut-left : (gone whole into : ℕ) (rs : List Run) → CutAt gone rs whole into → drop into (referencesOf (drop whole rs)) ≡ drop gone (referencesOf rs)
 cut-left gone whole into rs c =
     sym
     (ap (λ n. drop n (referencesOf rs)) (sym (c .counted)) ∙
     ap (λ xs. drop (length (referencesOf (take whole rs)) + into) (referencesOf xs)) (sym (take-append-drop whole rs)) ∙
     ap (drop (length (referencesOf (take whole rs)) + into)) (references-append (take whole rs) (drop whole rs)) ∙
     drop-append-add (referencesOf (take whole rs)) (referencesOf (drop whole rs)) into)
-
--- a drop cuts at one place
-
-held-first : (r : Run) (rs : List Run) → length (referencesOf (r ∷ rs)) ≡ r .count + length (referencesOf rs)
-unfolding referencesOf
-held-first r rs =
-    length-append (referencesIn r) (referencesOf rs) ∙ ap (λ n. n + length (referencesOf rs)) (repeated-length (r .start .0) (r .span .0) (r .count))
-
-cut-behind : (gone : ℕ) (r : Run) (rs : List Run) (whole into : ℕ) → CutAt gone (r ∷ rs) (suc whole) into → CutAt (gone - r .count) rs whole into
-cut-behind gone r rs whole into c =
-    record {
-      within = omega (arith, c .within);
-      counted = omega (arith, c .counted, held-first r (take whole rs));
-      inside = c .inside;
-    }
-
-cut-early : (gone : ℕ) (r : Run) (rs : List Run) (into other less : ℕ) → CutAt gone (r ∷ rs) 0 into → CutAt gone (r ∷ rs) (suc other) less → ⊥
-unfolding referencesOf
-cut-early gone r rs into other less a b = omega (arith, a .counted, a .inside, b .counted, held-first r (take other rs))
-
-pub cut-once : (gone : ℕ) (rs : List Run) (whole into other less : ℕ) → CutAt gone rs whole into → CutAt gone rs other less →
-    (whole ≡ other) × (into ≡ less)
-unfolding referencesOf
-cut-once gone [] whole into other less a b =
-    let m : length (referencesOf (take whole [])) ≡ 0 = ap (λ xs. length (referencesOf xs)) (take-nil whole) in
-    let n : length (referencesOf (take other [])) ≡ 0 = ap (λ xs. length (referencesOf xs)) (take-nil other) in
-    (omega (arith, a .within, b .within), omega (arith, a .counted, b .counted))
-cut-once gone (r ∷ rs) zero into zero less a b = (refl, omega (arith, a .counted, b .counted))
-cut-once gone (r ∷ rs) zero into (suc other) less a b = absurd (cut-early gone r rs into other less a b)
-cut-once gone (r ∷ rs) (suc whole) into zero less a b = absurd (cut-early gone r rs less whole into b a)
-cut-once gone (r ∷ rs) (suc whole) into (suc other) less a b =
-    let same = cut-once (gone - r .count) rs whole into other less (cut-behind gone r rs whole into a) (cut-behind gone r rs other less b) in
-    (ap suc (same .0), same .1)
 
 -- ---- the table that a drop leaves, step by step as the code has it
 

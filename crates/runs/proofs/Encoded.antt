@@ -1,8 +1,9 @@
--- A shaped list of runs is the encoding of its own references, and joined references are those of their own encoding.
+-- What a held run and a shaped list of runs say, as facts. A shaped list is the encoding of its own references, and joined
+-- references are those of their own encoding.
 use mathlib.Core.Path.{_≡_, refl, sym, ap, ap₂, subst, _∙_}
 use mathlib.Core.Bool.{Bool, true, false, cond, _&&_, not, and-eq-true-iff}
-use Prim.Native.Nat.{ℕ, zero, suc, _+_, _*_, _≤_}
-use native.Mathlib.Nat.{mul-one, not-suc-le-zero, le-refl}
+use Prim.Native.Nat.{ℕ, zero, suc, _+_, _*_, _≤_, _<_}
+use native.Mathlib.Nat.{mul-one, mul-le-mul-left, not-suc-le-zero, le-refl}
 use native.Mathlib.Numerals.{add-one}
 use native.Mathlib.Omega.{arith}
 use mathlib.Core.List.{List, [], _∷_, _++_}
@@ -20,12 +21,31 @@ use Rattle.runs.specs.Encoding.{push, encode}
 use Rattle.runs.specs.Shape.{runHeld, follows, runsShaped}
 use Rattle.runs.specs.Joining.{Within}
 
--- ---- what a shaped list says of its first run
+-- ---- a run that is held, as facts
 
 pub span-limits : (d : Span) → spanHeld d ≡ true → (1 ≤ d .0) × (d .0 ≤ largestSpan)
 span-limits d t =
     let b = and-eq-true-iff (leb 1 (d .0)) (leb (d .0) largestSpan) .0 t in
     (leb-true 1 (d .0) (b .0), leb-true (d .0) largestSpan (b .1))
+
+pub record HeldRun (r : Run) : Type 0 where
+  pub lasts : 1 ≤ r .span .0
+  pub short : r .span .0 ≤ largestSpan
+  pub some : 1 ≤ r .count
+  pub ends : runEnd r ≤ largestTick
+
+pub run-facts : (r : Run) → runHeld r ≡ true → HeldRun r
+run-facts r t =
+    let a = and-eq-true-iff (spanHeld (r .span) && leb 1 (r .count)) (leb (runEnd r) largestTick) .0 t in
+    let b = and-eq-true-iff (spanHeld (r .span)) (leb 1 (r .count)) .0 (a .0) in
+    let c = span-limits (r .span) (b .0) in
+    record { lasts = c .0; short = c .1; some = leb-true 1 (r .count) (b .1); ends = leb-true (runEnd r) largestTick (a .1) }
+
+-- it takes a tick at least
+pub run-grows : (r : Run) → 1 ≤ r .span .0 → 1 ≤ r .count → r .start .0 < runEnd r
+run-grows r lasts some = omega (arith, mul-le-mul-left (r .span .0) some, mul-one (r .span .0))
+
+-- ---- what a shaped list says of its first run
 
 pub record Leads (r : Run) (rs : List Run) : Type 0 where
   pub lasts : 1 ≤ r .span .0
@@ -40,17 +60,12 @@ unfolding runsShaped
 leads r rs t =
     let a = and-eq-true-iff (runHeld r && follows r rs) (runsShaped rs) .0 t in
     let b = and-eq-true-iff (runHeld r) (follows r rs) .0 (a .0) in
-    let c = and-eq-true-iff (spanHeld (r .span) && leb 1 (r .count)) (leb (runEnd r) largestTick) .0 (b .0) in
-    let d = and-eq-true-iff (spanHeld (r .span)) (leb 1 (r .count)) .0 (c .0) in
-    let e = span-limits (r .span) (d .0) in
-    record {
-      lasts = e .0;
-      short = e .1;
-      some = leb-true 1 (r .count) (d .1);
-      ends = leb-true (runEnd r) largestTick (c .1);
-      next = b .1;
-      rest = a .1;
-    }
+    let f = run-facts r (b .0) in
+    record { lasts = f .lasts; short = f .short; some = f .some; ends = f .ends; next = b .1; rest = a .1 }
+
+pub first-held : (r : Run) (rs : List Run) → runsShaped (r ∷ rs) ≡ true → runHeld r ≡ true
+unfolding runsShaped
+first-held r rs t = and-eq-true-iff (runHeld r) (follows r rs) .0 (and-eq-true-iff (runHeld r && follows r rs) (runsShaped rs) .0 t .0) .0
 
 pub led : (r : Run) (rs : List Run) → Leads r rs → runsShaped (r ∷ rs) ≡ true
 unfolding runsShaped
@@ -65,6 +80,11 @@ led r rs l =
     (l .next))
     (l .rest)
 
+-- a run that leads shaped runs leads others that follow it
+pub leads-too : (r : Run) (xs ys : List Run) → Leads r xs → follows r ys ≡ true → runsShaped ys ≡ true → runsShaped (r ∷ ys) ≡ true
+leads-too r xs ys l next rest =
+    led r ys (record { lasts = l .lasts; short = l .short; some = l .some; ends = l .ends; next = next; rest = rest })
+
 -- the runs behind some of a shaped list are shaped
 pub shaped-drop : (n : ℕ) (rs : List Run) → runsShaped rs ≡ true → runsShaped (drop n rs) ≡ true
 shaped-drop zero rs t = t
@@ -75,11 +95,10 @@ shaped-drop (suc n) (r ∷ rs) t = shaped-drop n rs (leads r rs t .rest)
 pub shaped-front : (xs ys : List Run) → runsShaped (xs ++ ys) ≡ true → runsShaped xs ≡ true
 unfolding runsShaped
 shaped-front [] ys s = refl
-shaped-front (r ∷ []) ys s =
-    let l = leads r ys s in led r [] (record { lasts = l .lasts; short = l .short; some = l .some; ends = l .ends; next = refl; rest = refl })
+shaped-front (r ∷ []) ys s = leads-too r ys [] (leads r ys s) refl refl
 shaped-front (r ∷ x ∷ xs) ys s =
     let l = leads r (x ∷ xs ++ ys) s in
-    led r (x ∷ xs) (record { lasts = l .lasts; short = l .short; some = l .some; ends = l .ends; next = l .next; rest = shaped-front (x ∷ xs) ys (l .rest) })
+    leads-too r (x ∷ xs ++ ys) (x ∷ xs) l (l .next) (shaped-front (x ∷ xs) ys (l .rest))
 
 pub shaped-last : (rs : List Run) (r : Run) → runsShaped (rs ++ r ∷ []) ≡ true → runsShaped (r ∷ []) ≡ true
 shaped-last [] r t = t
@@ -113,7 +132,7 @@ follow r (x ∷ xs) f s = ap₂ _&&_ (eq-eqb (runEnd r) (x .start .0) (sym s)) (
 
 -- ---- encoding so many references of one duration
 
-abbrev pub run : ℕ → ℕ → ℕ → Run
+abbrev run : ℕ → ℕ → ℕ → Run
 run s d n = record { start = record { 0 = s }; span = record { 0 = d }; count = n }
 
 abbrev pub ref : ℕ → ℕ → Reference

@@ -1,5 +1,5 @@
--- How many references have ended by a tick: joined references end one after the other, so those that have ended stand
--- first, and among references of one duration their number is a quotient.
+-- How many references have ended by a tick: none of those that begin after it, and among references of one duration a
+-- quotient.
 use mathlib.Core.Path.{_≡_, refl, sym, ap, _∙_}
 use mathlib.Core.Bool.{Bool, true, false, cond}
 use Prim.Native.Nat.{ℕ, zero, suc, _+_, _-_, _*_, _/_, _≤_, _<_, min}
@@ -8,11 +8,11 @@ use native.Mathlib.Numerals.{add-one}
 use native.Mathlib.Omega.{arith}
 use mathlib.Core.List.{List, [], _∷_, _++_}
 use lib.Dec.{leb}
-use lib.ListN.{length, take, drop}
+use lib.ListN.{length}
 use borrow.Author.Tests.{leb-true, leb-false, lt-leb}
 use Rattle.window.specs.declared.Reference.{Reference}
 use Rattle.window.specs.Window.{endOf}
-use Rattle.window.specs.References.{Joined, Each}
+use Rattle.window.specs.References.{Joined}
 use Rattle.runs.specs.Words.{repeated}
 use Rattle.runs.specs.Counting.{endedBy}
 use Rattle.runs.proofs.Joins.{repeated-join}
@@ -45,38 +45,8 @@ module _ (t : ℕ) where
       ap (λ u. cond u (suc (endedBy t rs)) (endedBy t rs)) (lt-leb (endOf r) t (omega (arith, j .0))) ∙
       none-ended (endOf r) rs (j .1) (omega (arith, j .0))
 
-  none-before : (s : ℕ) (rs : List Reference) → Joined s rs → t < s → Each (λ r. t < endOf r) rs
-  none-before s [] j l = tt
-  none-before s (r ∷ rs) j l = (omega (arith, j .0), none-before (endOf r) rs (j .1) (omega (arith, j .0)))
-
-  -- those that have ended by t stand first, and behind them none has
-  pub ended-first : (s : ℕ) (rs : List Reference) → Joined s rs → Each (λ r. endOf r ≤ t) (take (endedBy t rs) rs)
-  unfolding endedBy
-  ended-first s [] j = tt
-  ended-first s (r ∷ rs) j = go (leb (endOf r) t) refl (ended-first (endOf r) rs (j .1))
-    where
-      go : (u : Bool) → leb (endOf r) t ≡ u → Each (λ x. endOf x ≤ t) (take (endedBy t rs) rs) →
-          Each (λ x. endOf x ≤ t) (take (cond u (suc (endedBy t rs)) (endedBy t rs)) (r ∷ rs))
-      go true e f = (leb-true (endOf r) t e, f)
-      go false e f =
-          let none : endedBy t rs ≡ 0 = none-ended (endOf r) rs (j .1) (leb-false (endOf r) t e) in
-          rw none tt
-
-  pub ended-not : (s : ℕ) (rs : List Reference) → Joined s rs → Each (λ r. t < endOf r) (drop (endedBy t rs) rs)
-  unfolding endedBy
-  ended-not s [] j = tt
-  ended-not s (r ∷ rs) j = go (leb (endOf r) t) refl (ended-not (endOf r) rs (j .1))
-    where
-      go : (u : Bool) → leb (endOf r) t ≡ u → Each (λ x. t < endOf x) (drop (endedBy t rs) rs) →
-          Each (λ x. t < endOf x) (drop (cond u (suc (endedBy t rs)) (endedBy t rs)) (r ∷ rs))
-      go true e f = f
-      go false e f =
-          let l : t < endOf r = leb-false (endOf r) t e in
-          let none : endedBy t rs ≡ 0 = none-ended (endOf r) rs (j .1) l in
-          rw none (l, none-before (endOf r) rs (j .1) l)
-
   -- THE LAW: a quotient, or all of them
-  pub ended-quotient : (s d n : ℕ) → 1 ≤ d → endedBy t (repeated s d n) ≡ min n ((t - s) / d)
+  ended-quotient : (s d n : ℕ) → 1 ≤ d → endedBy t (repeated s d n) ≡ min n ((t - s) / d)
   unfolding endedBy repeated
   ended-quotient s d zero l = sym (zero-min ((t - s) / d))
   ended-quotient s d (suc n) l = go (leb (s + d) t) refl (ended-quotient (s + d) d n l)

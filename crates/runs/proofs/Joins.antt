@@ -126,7 +126,7 @@ unfolding lastEnd
 ticks-taken t [] j w = omega arith
 ticks-taken t (r ∷ rs) j w = omega (arith, ticks-taken (endOf r) rs (j .1) (w .1), w .0 .lasts, j .0)
 
-pub few : (t : ℕ) (rs : List Reference) → Joined t rs → Each Within rs → length rs ≤ largestTick
+few : (t : ℕ) (rs : List Reference) → Joined t rs → Each Within rs → length rs ≤ largestTick
 few t [] j w = omega arith
 few t (r ∷ rs) j w =
     omega (arith, ticks-taken (endOf r) rs (j .1) (w .1), end-within (endOf r) rs (w .0 .ends) (w .1), w .0 .lasts)

@@ -19,7 +19,7 @@ use Rattle.runs.specs.Encoding.{encode, runsFor, tableOf, canonical}
 use Rattle.runs.specs.Shape.{shaped, runsShaped, follows}
 use Rattle.runs.specs.Steps.{withRun, needsRun, keptWith, Storable}
 use Rattle.runs.proofs.Opening.{runs-length, words-length, last-opens, referencesIn}
-use Rattle.runs.proofs.Encoded.{span-limits, Leads, leads, led, follow, encoded, shaped-last}
+use Rattle.runs.proofs.Encoded.{span-limits, Leads, leads, led, leads-too, follow, encoded, shaped-last}
 use Rattle.runs.proofs.Tables.{used-words, runs-shaped, table-is}
 use Rattle.runs.proofs.Joins.{references-append, references-of-run, repeated-add, kept-end}
 
@@ -35,19 +35,11 @@ shaped-tail : (xs : List Run) (x y : Run) (rest other : List Run) → y .start .
 shaped-tail [] x y rest other s d t u = u
 shaped-tail (a ∷ xs) x y rest other s d t u =
     let l = leads a (xs ++ x ∷ rest) t in
-    led a (xs ++ y ∷ other)
-    (record {
-      lasts = l .lasts;
-      short = l .short;
-      some = l .some;
-      ends = l .ends;
-      next = follows-tail a xs x y rest other s d (l .next);
-      rest = shaped-tail xs x y rest other s d (l .rest) u;
-    })
+    leads-too a (xs ++ x ∷ rest) (xs ++ y ∷ other) l (follows-tail a xs x y rest other s d (l .next)) (shaped-tail xs x y rest other s d (l .rest) u)
 
 -- ---- a run's references behind those of shaped runs
 
-abbrev pub longer : Run → ℕ → Run
+abbrev longer : Run → ℕ → Run
 longer x n = record { start = x .start; span = x .span; count = x .count + n }
 
 module _ (xs : List Run) (x r : Run) (t : runsShaped (xs ++ x ∷ []) ≡ true) (u : runsShaped (r ∷ []) ≡ true) (joins : runEnd x ≡ r .start .0) where
@@ -55,24 +47,14 @@ module _ (xs : List Run) (x r : Run) (t : runsShaped (xs ++ x ∷ []) ≡ true) 
   last-leads = leads x [] (shaped-last xs x t)
 
   -- of another duration: one run more
-  pub encode-behind : (x .span .0 ≡ r .span .0 → ⊥) → encode (referencesOf (xs ++ x ∷ []) ++ referencesIn r) ≡ xs ++ x ∷ r ∷ []
+  encode-behind : (x .span .0 ≡ r .span .0 → ⊥) → encode (referencesOf (xs ++ x ∷ []) ++ referencesIn r) ≡ xs ++ x ∷ r ∷ []
   encode-behind n =
-      let l = last-leads in
       ap encode
       (ap (λ rs. referencesOf (xs ++ x ∷ []) ++ rs) (sym (references-of-run r)) ∙
       sym (references-append (xs ++ x ∷ []) (r ∷ [])) ∙
       ap referencesOf (append-snoc xs x (r ∷ []))) ∙
       encoded (xs ++ x ∷ r ∷ [])
-      (shaped-tail xs x x [] (r ∷ []) refl refl t
-      (led x (r ∷ [])
-      (record {
-        lasts = l .lasts;
-        short = l .short;
-        some = l .some;
-        ends = l .ends;
-        next = follow x (r ∷ []) n (sym joins);
-        rest = u;
-      })))
+      (shaped-tail xs x x [] (r ∷ []) refl refl t (leads-too x [] (r ∷ []) last-leads (follow x (r ∷ []) n (sym joins)) u))
 
   -- of the same duration: the last run made longer
   module _ (d : x .span .0 ≡ r .span .0) where
@@ -103,7 +85,7 @@ module _ (xs : List Run) (x r : Run) (t : runsShaped (xs ++ x ∷ []) ≡ true) 
         sym (append-assoc (referencesOf xs) (referencesOf (x ∷ [])) (referencesIn r)) ∙
         ap (λ rs. rs ++ referencesIn r) (sym (references-append xs (x ∷ [])))
 
-    pub encode-longer : encode (referencesOf (xs ++ x ∷ []) ++ referencesIn r) ≡ xs ++ longer x (r .count) ∷ []
+    encode-longer : encode (referencesOf (xs ++ x ∷ []) ++ referencesIn r) ≡ xs ++ longer x (r .count) ∷ []
     encode-longer = ap encode (sym longer-references) ∙ encoded (xs ++ longer x (r .count) ∷ []) longer-shaped
 
 -- ---- words of a run, put over three words
@@ -126,7 +108,7 @@ put-over xs old rest i r l three =
     (ap (λ k. drop k (wordsOf xs ++ (old ++ rest))) past ∙ drop-append-add (wordsOf xs) (old ++ rest) 3 ∙ drop-at old rest 3 three) ∙
     ap (λ t. t ++ rest) (sym (words-append xs (r ∷ [])))
 
-pub put-behind : (n : ℕ) (xs : List Run) (i : ℕ) (r : Run) → length xs * 3 ≡ i → i + 3 ≤ n → withRun (tableOf n xs) i r ≡ tableOf n (xs ++ r ∷ [])
+put-behind : (n : ℕ) (xs : List Run) (i : ℕ) (r : Run) → length xs * 3 ≡ i → i + 3 ≤ n → withRun (tableOf n xs) i r ≡ tableOf n (xs ++ r ∷ [])
 unfolding tableOf
 put-behind n xs i r l room =
     let parts : n - 3 * length xs ≡ 3 + (n - 3 * length (xs ++ r ∷ [])) = omega (arith, one-more xs r) in
@@ -134,7 +116,7 @@ put-behind n xs i r l room =
     (ap (λ k. replicate k 0) parts ∙ sym (replicate-append-replicate 3 (n - 3 * length (xs ++ r ∷ [])) 0)) ∙
     put-over xs (replicate 3 0) (replicate (n - 3 * length (xs ++ r ∷ [])) 0) i r l refl
 
-pub put-last : (n : ℕ) (xs : List Run) (x : Run) (i : ℕ) (r : Run) → length xs * 3 ≡ i → withRun (tableOf n (xs ++ x ∷ [])) i r ≡ tableOf n (xs ++ r ∷ [])
+put-last : (n : ℕ) (xs : List Run) (x : Run) (i : ℕ) (r : Run) → length xs * 3 ≡ i → withRun (tableOf n (xs ++ x ∷ [])) i r ≡ tableOf n (xs ++ r ∷ [])
 unfolding tableOf
 put-last n xs x i r l =
     let same : n - 3 * length (xs ++ x ∷ []) ≡ n - 3 * length (xs ++ r ∷ []) = omega (arith, one-more xs r, one-more xs x) in

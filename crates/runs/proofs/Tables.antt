@@ -1,5 +1,5 @@
--- A shaped table is the canonical table of its own references, and the canonical table of joined references within the limits is shaped
--- and keeps just them.
+-- A shaped table is the canonical table of its own references, and the canonical table of joined references within the
+-- limits is shaped and keeps just them.
 use mathlib.Core.Path.{_≡_, refl, sym, ap, ap₂, _∙_}
 use mathlib.Core.Bool.{true, _&&_, and-eq-true-iff}
 use Prim.Native.Nat.{ℕ, zero, suc, _-_, _*_, _/_, _≤_}
@@ -66,13 +66,10 @@ module _ (used : ℕ) (ws : List ℕ) (t : shaped used ws ≡ true) where
   pub runs-for-kept : runsFor (keptIn used ws) ≡ used
   runs-for-kept = ap length kept-runs ∙ runs-length used ws
 
--- equal references in shaped tables of one length are equal words, and as many used runs
-module _ (used other : ℕ) (ws vs : List ℕ) (t : shaped used ws ≡ true) (u : shaped other vs ≡ true) (same : keptIn used ws ≡ keptIn other vs) where
-  pub same-words : length ws ≡ length vs → ws ≡ vs
-  same-words e = canonical-is used ws t ∙ ap₂ canonical e same ∙ sym (canonical-is other vs u)
-
-  pub same-used : used ≡ other
-  same-used = sym (runs-for-kept used ws t) ∙ ap runsFor same ∙ runs-for-kept other vs u
+-- equal references in shaped tables of one length are equal words
+pub same-words : (used other : ℕ) (ws vs : List ℕ) → shaped used ws ≡ true → shaped other vs ≡ true → keptIn used ws ≡ keptIn other vs →
+    length ws ≡ length vs → ws ≡ vs
+same-words used other ws vs t u same e = canonical-is used ws t ∙ ap₂ canonical e same ∙ sym (canonical-is other vs u)
 
 -- ---- the table of runs
 
@@ -89,7 +86,7 @@ pub table-length : (n : ℕ) (rs : List Run) → 3 * length rs ≤ n → length 
 unfolding tableOf
 table-length n rs l = simp (length-append, words-length, length-replicate) (omega arith)
 
-pub table-shaped : (n : ℕ) (rs : List Run) → runsShaped rs ≡ true → length rs ≤ n / 3 → shaped (length rs) (tableOf n rs) ≡ true
+table-shaped : (n : ℕ) (rs : List Run) → runsShaped rs ≡ true → length rs ≤ n / 3 → shaped (length rs) (tableOf n rs) ≡ true
 unfolding tableOf
 table-shaped n rs t l =
     ap₂ _&&_

@@ -1,5 +1,5 @@
--- The shape of a table: used runs stand first and fit, each is within the limits and of one reference at least, they join end to start,
--- neighbours differ in duration, and all words after them are 0. Paper: Record and table.
+-- The shape of a table: used runs stand first and fit, each is within the limits and of one reference at least, they join
+-- end to start, neighbours differ in duration, and all words after them are 0. Paper: Record and table.
 use Prim.Native.Nat.{ℕ, _*_}
 use mathlib.Core.Bool.{Bool, true, _&&_, not}
 use mathlib.Core.List.{List, [], _∷_}

@@ -1,4 +1,4 @@
--- A definition by a test, at the outcome that the code's own test had.
+-- A definition by a test, at the outcome that the code's own test had; and when two tests are one.
 use mathlib.Core.Path.{_≡_, refl, sym, ap, _∙_}
 use mathlib.Core.Bool.{Bool, true, false, cond}
 
@@ -16,3 +16,9 @@ through f false x y = refl
 pub either : {A : Type 0} (t : Bool) (x : A) → cond t x x ≡ x
 either true x = refl
 either false x = refl
+
+-- two tests that are true together are one
+pub same-test : (s t : Bool) → (s ≡ true → t ≡ true) → (t ≡ true → s ≡ true) → s ≡ t
+same-test true t to back = sym (to refl)
+same-test false true to back = back refl
+same-test false false to back = refl

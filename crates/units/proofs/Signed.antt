@@ -28,7 +28,7 @@ is-moved z a b c d e h = record { same = omega (arith, h .same) }
 pub is-pos : (n : ℕ) → Is (pos n) n 0
 is-pos n = record { same = refl }
 
-pub is-neg : (z : ℤ) (a b : ℕ) → Is z a b → Is (negℤ z) b a
+is-neg : (z : ℤ) (a b : ℕ) → Is z a b → Is (negℤ z) b a
 is-neg (pos zero) a b h = record { same = omega (arith, h .same) }
 is-neg (pos (suc n)) a b h = record { same = omega (arith, h .same) }
 is-neg (negsuc n) a b h = record { same = omega (arith, h .same) }

@@ -1,4 +1,5 @@
--- What a stamp can tell: the one number below 2^32 by which the next tick would have to grow to show it.
+-- How a start stands, from the tests of the code; and what a stamp can tell: within half of the circle what the full tick
+-- tells.
 use mathlib.Core.Path.{_≡_, refl, sym, _∙_}
 use mathlib.Core.Bool.{Bool, true, false}
 use Prim.Native.Nat.{ℕ, _+_, _-_, _^_, _%_, _≤_, _<_}
@@ -11,15 +12,8 @@ use Rattle.units.specs.declared.Tick.{Tick}
 use Rattle.units.specs.declared.WideTick.{WideTick}
 use Rattle.units.specs.declared.standing.Standing.the-variants.{Joins, Gap, Overlap}
 
-pub less32-small : (a b : ℕ) → less32 a b < 2 ^ 32
-unfolding less32
-less32-small a b = omega arith
-
-pub less32-back : (a b : ℕ) → a < 2 ^ 32 → (less32 a b + b) % 2 ^ 32 ≡ a
-unfolding less32
-less32-back a b h = omega arith
-
-pub less32-unique : (x a b : ℕ) → x < 2 ^ 32 → (x + b % 2 ^ 32) % 2 ^ 32 ≡ a → x ≡ less32 a b
+-- the one number below 2^32 by which the next tick would have to grow to show the stamp
+less32-unique : (x a b : ℕ) → x < 2 ^ 32 → (x + b % 2 ^ 32) % 2 ^ 32 ≡ a → x ≡ less32 a b
 unfolding less32
 less32-unique x a b h e = omega arith
 

@@ -1,4 +1,4 @@
--- A test that is right: true exactly where the statement holds.
+-- A test that is right: true exactly where the statement holds. It states no rule of the paper.
 use mathlib.Core.Path.{_≡_}
 use mathlib.Core.Bool.{Bool, true}
 

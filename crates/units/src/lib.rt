@@ -3,8 +3,8 @@
 // constructor refuses what lies beyond the limits.
 ghost use mathlib.Core.Path.{_≡_};
 ghost use Prim.Native.Nat.{_*_, _≤_};
-ghost use Rattle.units.specs.Limits.{largestTick, largestMillis, largestTimescale};
 ghost use Rattle.units.specs.Product.{Product};
+ghost use Rattle.units.specs.Limits.{largestTick, largestMillis, largestTimescale};
 ghost use Rattle.units.specs.Limits.{tickHeld, millisHeld, timescaleHeld, spanHeld, numberHeld};
 ghost use Rattle.units.specs.Limits.{tickMade, millisMade, timescaleMade, spanMade, numberMade, grainsBetween};
 

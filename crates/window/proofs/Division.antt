@@ -1,7 +1,7 @@
 -- What the divisions of the code find is exactly what the definitions ask: the ends that are passed, the ticks that a
 -- window needs, the least count that reaches the period end.
 use mathlib.Core.Path.{_≡_, refl, sym, ap, ap₂, _∙_}
-use mathlib.Core.Bool.{Bool, true, false, cond, _&&_, and-eq-true-iff, false≢true}
+use mathlib.Core.Bool.{Bool, true, false, cond, _&&_, false≢true}
 use Prim.Native.Nat.{ℕ, _+_, _-_, _*_, _/_, _≤_, _<_, min, max}
 use native.Mathlib.Nat.{mul-assoc, mul-comm, add-mul, one-mul, mul-le-mul-right, div-mul-le-self, div-le-self, lt-div-mul-add, add-zero, le-of-lt}
 use native.Mathlib.Omega.{arith}
@@ -12,6 +12,7 @@ use mir.Syntax.{w64}
 use mir.Val.{Fits}
 use Rattle.units.specs.Limits.{largestTick, largestMillis, largestTimescale}
 use Rattle.units.specs.Product.{Product}
+use Rattle.units.proofs.Choice.{same-test}
 use Rattle.units.proofs.Signed.{up, is-pos, le-is}
 use Rattle.window.specs.declared.Head.{Head}
 use Rattle.window.specs.declared.Needed.{Needed}
@@ -20,13 +21,8 @@ use Rattle.window.specs.declared.Passed.the-variants.{All, Upto}
 use Rattle.window.specs.Place.{Past, endKnown, periodEnd, place, beforeEnd, endedBy}
 use Rattle.window.specs.Window.{inside, lowEdge, highEdge, windowAt, wholePeriod, passed, tickNeeded}
 use Rattle.window.specs.Ticks.{EndsPassed, NeededTicks, LeastCount, reachesEnd}
+use Rattle.window.proofs.Ranges.{in-range, range-first, range-last}
 use Rattle.window.proofs.Unsigned.{endAt, placeN, lowN, cutN, highN, later-start, low-is, high-up, passed-is, tick-is, window-inside, place-is, starts-before, not-known, is-known}
-
--- two tests that are true of the same numbers are one
-same-test : (s t : Bool) → (s ≡ true → t ≡ true) → (t ≡ true → s ≡ true) → s ≡ t
-same-test true t to back = sym (to refl)
-same-test false true to back = back refl
-same-test false false to back = refl
 
 -- a point past the period start is its `up`
 past-up : (r : ℕ) (z : ℤ) → Past r z → r ≡ up z
@@ -46,11 +42,10 @@ tick-side k o a b l =
     same-test (ltb from to) (leb (o + a / 1000) k && ltb k (o + (b + 999) / 1000))
     (λ t.
     let m : max (k * 1000 - o * 1000) a < min ((k + 1) * 1000 - o * 1000) b = ltb-true from to t in
-    ap₂ _&&_ (le-leb (o + a / 1000) k (omega arith)) (lt-ltb k (o + (b + 999) / 1000) (omega arith)))
+    in-range (o + a / 1000) (o + (b + 999) / 1000) k (omega arith) (omega arith))
     (λ t.
-    let both = and-eq-true-iff _ _ .0 t in
-    let m : o + a / 1000 ≤ k = leb-true (o + a / 1000) k (both .0) in
-    let n : k < o + (b + 999) / 1000 = ltb-true k (o + (b + 999) / 1000) (both .1) in
+    let m : o + a / 1000 ≤ k = range-first (o + a / 1000) (o + (b + 999) / 1000) k t in
+    let n : k < o + (b + 999) / 1000 = range-last (o + a / 1000) (o + (b + 999) / 1000) k t in
     lt-ltb (max (k * 1000 - o * 1000) a) (min ((k + 1) * 1000 - o * 1000) b) (omega arith))
   where
     from : ℕ

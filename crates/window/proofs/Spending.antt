@@ -1,7 +1,7 @@
 -- Spent, as the paper says it, and the comparison that decides it are one, for a reference that starts before the period
 -- end. Spent stays spent at later clocks, and what ends earlier is spent earlier, so spent references stand first.
 use mathlib.Core.Path.{_≡_, refl, sym, ap₂, _∙_}
-use mathlib.Core.Bool.{Bool, true, false, cond}
+use mathlib.Core.Bool.{Bool, true, false, cond, true≢false, false≢true}
 use Prim.Native.Nat.{ℕ, suc, _+_, _-_, _*_, _/_, _≤_, _<_, min, max}
 use native.Mathlib.Nat.{mul-le-mul-right, add-mul, one-mul, div-mul-le-self, lt-div-mul-add, le-refl, le-trans, le-of-lt, lt-of-le-of-lt}
 use native.Mathlib.Omega.{arith}
@@ -39,7 +39,7 @@ module _ (h : Head) where
     where
       go : (t : Bool) → x < cond t (min (endAt h) y) y → t ≡ true → x < endAt h
       go true l e = omega arith
-      go false l e = let z : _≡_ {A = ℕ} 0 1 = cc in omega arith
+      go false l e = absurd (false≢true e)
 
   cut-mono : (x y : ℕ) → x ≤ y → cutN h x ≤ cutN h y
   cut-mono x y l = go (endKnown h)
@@ -64,7 +64,7 @@ module _ (h : Head) where
       let q : cutN h (placeN h e) ≤ lowN h c = leb-true (cutN h (placeN h e)) (lowN h c) (sym (passed-is h e c) ∙ p) in
       passed-is h e d ∙ le-leb (cutN h (placeN h e)) (lowN h d) (omega (arith, low-mono c d l))
 
-  pub passed-earlier : (d e c : ℕ) → d ≤ e → passed h e c ≡ true → passed h d c ≡ true
+  passed-earlier : (d e c : ℕ) → d ≤ e → passed h e c ≡ true → passed h d c ≡ true
   passed-earlier d e c l p =
       let q : cutN h (placeN h e) ≤ lowN h c = leb-true (cutN h (placeN h e)) (lowN h c) (sym (passed-is h e c) ∙ p) in
       passed-is h d c ∙ le-leb (cutN h (placeN h d)) (lowN h c) (omega (arith, cut-mono (placeN h d) (placeN h e) (omega arith)))
@@ -193,10 +193,7 @@ module _ (h : Head) where
 
   module _ (rated : 1 ≤ h .timescale .0) (c : ℕ) where
     not-spent : (r : Reference) → Sound h r → passed h (endOf r) c ≡ false → Spent h r c → ⊥
-    not-spent r s p q =
-        let e : true ≡ false = sym (spent-is r c rated (s .lasts) (s .begins) .if q) ∙ p in
-        let z : _≡_ {A = ℕ} 0 1 = cc in
-        omega arith
+    not-spent r s p q = true≢false (sym (spent-is r c rated (s .lasts) (s .begins) .if q) ∙ p)
 
     -- after one that is not spent, none is
     none-spent : (t : ℕ) (rs : List Reference) → Joined t rs → Each (Sound h) rs → passed h t c ≡ false → Each (λ r. Spent h r c → ⊥) rs

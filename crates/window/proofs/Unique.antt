@@ -1,10 +1,10 @@
 -- The answers that are stated as properties leave no room: two answers that are right of one question are equal.
 use mathlib.Core.Path.{_≡_, refl, sym, ap, ap₂, _∙_}
-use mathlib.Core.Bool.{Bool, true, false, _&&_, and-eq-true-iff, true≢false, false≢true}
+use mathlib.Core.Bool.{Bool, true, false, _&&_, true≢false, false≢true}
 use Prim.Native.Nat.{ℕ, suc, _-_, _≤_, _<_}
 use native.Mathlib.Nat.{le-antisymm, le-refl}
 use native.Mathlib.Omega.{arith}
-use borrow.Author.Tests.{leb-true, ltb-true, le-leb, lt-leb, lt-ltb, leb-false}
+use borrow.Author.Tests.{leb-true, le-leb, lt-leb, leb-false}
 use lib.Dec.{leb, ltb}
 use Rattle.window.specs.declared.Head.{Head}
 use Rattle.window.specs.declared.Passed.{Passed}
@@ -13,6 +13,7 @@ use Rattle.window.specs.declared.Needed.{Needed}
 use Rattle.window.specs.declared.Needed.the-variants.{Nothing, Ticks}
 use Rattle.window.specs.Window.{Stretch}
 use Rattle.window.specs.Ticks.{reached, EndsPassed, named, NamesSome, NeededTicks, LeastCount}
+use Rattle.window.proofs.Ranges.{in-range, range-first, range-last}
 
 -- ---- ends
 
@@ -31,16 +32,11 @@ one-passed h c p q x y = same-reached p q (λ e. sym (x e) ∙ y e)
 
 -- ---- ticks
 
-in-range : (a b k : ℕ) → a ≤ k → k < b → (leb a k && ltb k b) ≡ true
-in-range a b k l m = ap₂ _&&_ (le-leb a k l) (lt-ltb k b m)
-
 -- a range lies within one that has its first and its last
 within : (a b c d : ℕ) → a < b → ((k : ℕ) → (leb a k && ltb k b) ≡ (leb c k && ltb k d)) → (c ≤ a) × (b ≤ d)
 within a b c d l same =
-    let first = and-eq-true-iff (leb c a) (ltb a d) .0 (sym (same a) ∙ in-range a b a (le-refl a) l) in
-    let last = and-eq-true-iff (leb c (b - 1)) (ltb (b - 1) d) .0 (sym (same (b - 1)) ∙ in-range a b (b - 1) (omega arith) (omega arith)) in
-    let m : b - 1 < d = ltb-true (b - 1) d (last .1) in
-    (leb-true c a (first .0), omega arith)
+    let m : b - 1 < d = range-last c d (b - 1) (sym (same (b - 1)) ∙ in-range a b (b - 1) (omega arith) (omega arith)) in
+    (range-first c d a (sym (same a) ∙ in-range a b a (le-refl a) l), omega arith)
 
 same-named : (m n : Needed) → NamesSome m → NamesSome n → ((k : ℕ) → named m k ≡ named n k) → m ≡ n
 same-named Nothing Nothing x y same = refl

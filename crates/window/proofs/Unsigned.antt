@@ -23,11 +23,11 @@ pub up-lt : (x : ℕ) (z : ℤ) → ltZ (pos x) z ≡ ltb x (up z)
 up-lt x (pos n) = refl
 up-lt x (negsuc n) = sym (le-ltb x 0 (omega arith))
 
-pub up-le : (z : ℤ) (x : ℕ) → leZ z (pos x) ≡ leb (up z) x
+up-le : (z : ℤ) (x : ℕ) → leZ z (pos x) ≡ leb (up z) x
 up-le (pos n) x = refl
 up-le (negsuc n) x = sym (le-leb 0 x (omega arith))
 
-pub up-is : (z : ℤ) (a b : ℕ) → Is z a b → up z ≡ a - b
+up-is : (z : ℤ) (a b : ℕ) → Is z a b → up z ≡ a - b
 up-is (pos n) a b h = omega (arith, h .same)
 up-is (negsuc n) a b h = omega (arith, h .same)
 
@@ -105,7 +105,7 @@ module _ (h : Head) where
       is-mul (m -ℤ pos (h .start .0)) a (b + h .start .0) (h .timescale .0)
       (is-moved (m -ℤ pos (h .start .0)) (a + 0) (b + h .start .0) a (b + h .start .0) (omega arith) s)
 
-  pub place-up : (k : ℕ) → up (place h k) ≡ placeN k
+  place-up : (k : ℕ) → up (place h k) ≡ placeN k
   place-up k = up-is (place h k) (k * 1000) (h .offset .0 * 1000) (place-is k)
 
   cut-up : (z : ℤ) → up (cutToEnd h z) ≡ cutN (up z)

@@ -1,4 +1,4 @@
--- `frames::line_length` meets its contract: in each arm the kind is the number matched. Assumes nothing.
+-- `line_length` meets its contract: in each arm the kind is the number matched.
 use borrow.Author.Tests.{ne-eqb}
 use Rattle.frames.proofs.line_length.Statement.{statement}
 use Rattle.frames.proofs.line_length.Tie as tie

@@ -1,5 +1,4 @@
--- `frames::read_line` meets its contract: its tests are those of the definition, and a line of one digit has no kind's length.
--- Assumes nothing.
+-- `read_line` meets its contract: its tests are those of the definition, and a line of one digit has no kind's length.
 use mathlib.Core.Path.{_≡_, sym, _∙_, ap}
 use mathlib.Core.Bool.{Bool, true, false, not}
 use mathlib.Core.List.{List}
@@ -38,30 +37,18 @@ module _ (line : List ℕ) (t : Bool) (d : t ≡ areDigits line) where
           simp (sym d ∙ not-false t e, eq-eqb (length line) (lineLength (kindAt line)) (h ∙ long ∙ ap lineLength kind))
           (e₁ ∙ ap (λ (m : ℕ). frameAs m line) kind)
 
-returns : tie.Need-returns
-returns c = search (needs, not-digits)
-
-returns-2 : tie.Need-returns-2
-returns-2 c = search (needs, no-kind)
-
-returns-3 : tie.Need-returns-3
-returns-3 c = search (needs, other-length)
-
-returns-4 : tie.Need-returns-4
-returns-4 c = search (needs, read)
-
 pub read-line-spec : {M : Type 1} → statement M
 read-line-spec =
     tie.close
     (tie.spec
     (λ c κs. search needs)
-    returns
-    returns-2
+    (λ c. search (needs, not-digits))
+    (λ c. search (needs, no-kind))
     (λ c. search needs)
     (λ c. search needs)
     (λ c. search needs)
     (λ c κs. search needs)
     (λ c κs. search needs)
-    returns-3
+    (λ c. search (needs, other-length))
     (λ c κs. search needs)
-    returns-4)
+    (λ c. search (needs, read)))

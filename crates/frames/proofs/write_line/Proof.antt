@@ -1,4 +1,4 @@
--- `frames::write_line` meets its contract: in each arm the row and the values are those of the frame. Assumes nothing.
+-- `write_line` meets its contract: in each arm the row and the values are those of the frame.
 use mathlib.Core.Path.{_≡_, refl, sym, _∙_}
 use mathlib.Core.Bool.{false≢true}
 use mathlib.Core.List.{List, [], _∷_, _++_, append-assoc}

@@ -1,8 +1,8 @@
--- `hex::are_digits` meets its contract. The loop's invariant: the bytes from `i` on are digits exactly if all are. The measure is what is left
--- of the length. Assumes nothing.
+-- `are_digits` meets its contract. The loop's invariant: the bytes from `i` on are digits exactly if all are. The measure is
+-- what is left of the length.
 use mathlib.Core.Path.{_≡_, refl, sym, _∙_, ap}
 use mathlib.Core.Bool.{Bool, true, false, not, _&&_}
-use mathlib.Core.List.{List}
+use mathlib.Core.List.{List, []}
 use Prim.Native.Nat.{ℕ, _+_, _-_, _≤_, _<_}
 use native.Mathlib.Numerals.{add-one}
 use native.Mathlib.Omega.{arith}
@@ -29,7 +29,7 @@ through : (s : List ℕ) (i : ℕ) → length s ≤ i → i ≤ length s → are
 unfolding areDigits
 through s i l h e = rw (← e) (rw (drop-all) refl)
   where
-    drop-all : drop i s ≡ mathlib.Core.List.[]
+    drop-all : drop i s ≡ []
     drop-all = let n : i ≡ length s = omega arith in rw n (drop-length s)
 
 abbrev Inv-loop : tie.InvT-loop
@@ -38,41 +38,17 @@ Inv-loop s i₀ i = (i ≤ length s) × (areDigits (drop i s) ≡ areDigits s)
 abbrev μ-loop : tie.MeasureT-loop
 μ-loop s i₀ i = length s - i
 
-loop-holds : tie.Need-loop-holds Inv-loop μ-loop
-loop-holds c = search needs
-
-shared-slice-read-is-digit : tie.Need-shared-slice-read-is-digit Inv-loop μ-loop
-shared-slice-read-is-digit c = search needs
-
-is-digit-requires : tie.Need-is-digit-requires Inv-loop μ-loop
-is-digit-requires c κs = search needs
-
-returns : tie.Need-returns Inv-loop μ-loop
-returns c = search (needs, found)
-
-add-i : tie.Need-add-i Inv-loop μ-loop
-add-i c = search needs
-
-loop-less : tie.Need-loop-less Inv-loop μ-loop
-loop-less c = search needs
-
-loop-again : tie.Need-loop-again Inv-loop μ-loop
-loop-again c = search (needs, passed)
-
-returns-2 : tie.Need-returns-2 Inv-loop μ-loop
-returns-2 c = search (needs, through)
-
 pub are-digits-spec : {M : Type 1} → statement M
 are-digits-spec =
     tie.close
     (tie.spec
     Inv-loop
     μ-loop
-    loop-holds
-    shared-slice-read-is-digit
-    is-digit-requires
-    returns
-    add-i
-    loop-less
-    loop-again
-    returns-2)
+    (λ c. search needs)
+    (λ c. search needs)
+    (λ c κs. search needs)
+    (λ c. search (needs, found))
+    (λ c. search needs)
+    (λ c. search needs)
+    (λ c. search (needs, passed))
+    (λ c. search (needs, through)))

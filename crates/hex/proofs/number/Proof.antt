@@ -1,5 +1,5 @@
--- `hex::number` meets its contract. The loop's invariant: what is read so far, moved left by the digits to come, and what those mean make the
--- whole number; and it has at most `i` digits, so that it fits. The measure is what is left of the length. Assumes nothing.
+-- `number` meets its contract. The loop's invariant: what is read so far, moved left by the digits to come, and what those
+-- mean make the whole number; and it has at most `i` digits, so that it fits. The measure is what is left of the length.
 use mathlib.Core.Path.{_≡_, sym, _∙_, ap}
 use mathlib.Core.List.{List}
 use Prim.Native.Nat.{ℕ, suc, _+_, _-_, _*_, _^_, _≤_, _<_}
@@ -62,45 +62,18 @@ Inv-loop s n₀ i₀ n i = Read s n i
 abbrev μ-loop : tie.MeasureT-loop
 μ-loop s n₀ i₀ n i = length s - i
 
-loop-holds : tie.Need-loop-holds Inv-loop μ-loop
-loop-holds c = search (needs, begun)
-
-mul-n : tie.Need-mul-n Inv-loop μ-loop
-mul-n c = search (needs, moved-fits)
-
-shared-slice-read-value : tie.Need-shared-slice-read-value Inv-loop μ-loop
-shared-slice-read-value c = search needs
-
-value-requires : tie.Need-value-requires Inv-loop μ-loop
-value-requires c κs = search needs
-
-add-n : tie.Need-add-n Inv-loop μ-loop
-add-n c = search (needs, joined-fits)
-
-add-i : tie.Need-add-i Inv-loop μ-loop
-add-i c = search needs
-
-loop-less : tie.Need-loop-less Inv-loop μ-loop
-loop-less c = search needs
-
-loop-again : tie.Need-loop-again Inv-loop μ-loop
-loop-again c = search (needs, turn)
-
-returns : tie.Need-returns Inv-loop μ-loop
-returns c = search (needs, done)
-
 pub number-spec : {M : Type 1} → statement M
 number-spec =
     tie.close
     (tie.spec
     Inv-loop
     μ-loop
-    loop-holds
-    mul-n
-    shared-slice-read-value
-    value-requires
-    add-n
-    add-i
-    loop-less
-    loop-again
-    returns)
+    (λ c. search (needs, begun))
+    (λ c. search (needs, moved-fits))
+    (λ c. search needs)
+    (λ c κs. search needs)
+    (λ c. search (needs, joined-fits))
+    (λ c. search needs)
+    (λ c. search needs)
+    (λ c. search (needs, turn))
+    (λ c. search (needs, done)))

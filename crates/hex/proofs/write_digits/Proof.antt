@@ -1,5 +1,5 @@
--- `hex::write_digits` meets its contract. The loop's invariant: the digits of what is left of the number, before those written, are the digits
--- of the number. The measure is how many places are left. Assumes nothing.
+-- `write_digits` meets its contract. The loop's invariant: the digits of what is left of the number, before those written,
+-- are the digits of the number. The measure is how many places are left.
 use mathlib.Core.Path.{_≡_, refl, sym, _∙_, ap, ap₂}
 use mathlib.Core.List.{List, [], _∷_, _++_, append-nil}
 use Prim.Native.Nat.{ℕ, suc, _+_, _-_, _/_, _%_, _≤_, _<_}
@@ -58,49 +58,19 @@ Inv-loop s₀ x rest₀ done₀ s rest done = Written s₀ x s rest done
 abbrev μ-loop : tie.MeasureT-loop
 μ-loop s₀ x rest₀ done₀ s rest done = length s₀ - done
 
-loop-holds : tie.Need-loop-holds Inv-loop μ-loop
-loop-holds c = search (needs, begun)
-
-sub-at : tie.Need-sub-at Inv-loop μ-loop
-sub-at c = search needs
-
-sub-at-2 : tie.Need-sub-at-2 Inv-loop μ-loop
-sub-at-2 c = search needs
-
-digit-of-requires : tie.Need-digit-of-requires Inv-loop μ-loop
-digit-of-requires c κs = search needs
-
-slice-write-s : tie.Need-slice-write-s Inv-loop μ-loop
-slice-write-s c = search needs
-
-add-done : tie.Need-add-done Inv-loop μ-loop
-add-done c = search needs
-
-loop-less : tie.Need-loop-less Inv-loop μ-loop
-loop-less c = search needs
-
-loop-again : tie.Need-loop-again Inv-loop μ-loop
-loop-again c = search (needs, turn)
-
-same-length : tie.Need-same-length Inv-loop μ-loop
-same-length c = search needs
-
-returns : tie.Need-returns Inv-loop μ-loop
-returns c = search (needs, full)
-
 pub write-digits-spec : {M : Type 1} → statement M
 write-digits-spec =
     tie.close
     (tie.spec
     Inv-loop
     μ-loop
-    loop-holds
-    sub-at
-    sub-at-2
-    digit-of-requires
-    slice-write-s
-    add-done
-    loop-less
-    loop-again
-    same-length
-    returns)
+    (λ c. search (needs, begun))
+    (λ c. search needs)
+    (λ c. search needs)
+    (λ c κs. search needs)
+    (λ c. search needs)
+    (λ c. search needs)
+    (λ c. search needs)
+    (λ c. search (needs, turn))
+    (λ c. search needs)
+    (λ c. search (needs, full)))

@@ -1,8 +1,9 @@
 -- `before_first` meets its contract. The loop's invariant: so many runs do not touch, and those behind them decide.
 use borrow.Author.Needs.{needs}
 use Prim.Native.Nat.{_-_}
+use Rattle.runs.proofs.Walking.{place-there}
 use Rattle.answers.specs.Spans.{touches}
-use Rattle.answers.proofs.Spanning.{Fronting, front-start, front-none, front-found, front-again, span-room, span-held}
+use Rattle.answers.proofs.Spanning.{Fronting, front-start, front-none, front-found, front-again, span-held}
 use Rattle.answers.proofs.spans.before_first.Statement.{statement}
 use Rattle.answers.proofs.spans.before_first.Tie as tie
 
@@ -20,7 +21,7 @@ before-first-spec =
     μ-loop
     (λ c. search (needs, front-start))
     (λ c. search needs)
-    (λ c κs. search (needs, span-room))
+    (λ c κs. search (needs, place-there))
     (λ c κs. search (needs, span-held))
     (λ c. search (needs, front-found))
     (λ c. search needs)

@@ -1,7 +1,7 @@
 -- `run_touches` meets its contract: by the run's start and its end.
 use borrow.Author.Needs.{needs}
-use native.Mathlib.Nat.{le-of-lt}
-use Rattle.agreement.proofs.Runs.{end-fits, end-sum-fits}
+use native.Mathlib.Nat.{le-refl}
+use Rattle.agreement.proofs.Runs.{some-fit, some-sum-fits}
 use Rattle.answers.proofs.Spanning.{touch-past, touch-is}
 use Rattle.answers.proofs.spans.run_touches.Statement.{statement}
 use Rattle.answers.proofs.spans.run_touches.Tie as tie
@@ -10,7 +10,7 @@ pub run-touches-spec : {M : Type 1} → statement M
 run-touches-spec =
     tie.close
     (tie.spec
-    (λ c. search (needs, touch-past, le-of-lt))
-    (λ c. search (needs, end-fits))
-    (λ c. search (needs, end-sum-fits))
+    (λ c. search (needs, touch-past))
+    (λ c. search (needs, some-fit, le-refl))
+    (λ c. search (needs, some-sum-fits, le-refl))
     (λ c. search (needs, touch-is)))

@@ -1,9 +1,10 @@
 -- `availability` meets its contract: the refusals in their order, then the reference that was found.
 use borrow.Author.Needs.{needs}
 use mathlib.Core.Path.{ap, _∙_}
+use Rattle.agreement.proofs.Agreeing.{agree-head}
 use Rattle.answers.specs.Available.{numberAvailability}
 use Rattle.answers.proofs.Guards.{told, refused, allowed}
-use Rattle.answers.proofs.Agreed.{head-held, agreed-within}
+use Rattle.answers.proofs.Agreed.{agreed-within}
 use Rattle.answers.proofs.Numbering.{is-within}
 use Rattle.answers.proofs.times.availability.Statement.{statement}
 use Rattle.answers.proofs.times.availability.Tie as tie
@@ -14,7 +15,7 @@ kept-number-requires c κs = told _ _ (c .before .agrees .ensures) (c .if1 .left
 found-availability-requires : tie.Need-found-availability-requires
 found-availability-requires c κs =
     let agreed = told _ _ (c .before .before .agrees .ensures) (c .before .if1 .left) in
-    (head-held _ _ agreed, is-within _ _ _ _ (agreed-within _ _ agreed) (c .kept-number .ensures))
+    (agree-head _ _ agreed, is-within _ _ _ _ (agreed-within _ _ agreed) (c .kept-number .ensures))
 
 returns-2 : tie.Need-returns-2
 returns-2 c =

@@ -2,9 +2,10 @@
 use borrow.Author.Needs.{needs}
 use borrow.Author.Tests.{leb-true}
 use mathlib.Core.Path.{ap, _∙_}
+use Rattle.agreement.proofs.Agreeing.{agree-head}
 use Rattle.answers.specs.Available.{numberAvailable}
 use Rattle.answers.proofs.Guards.{told, refused, allowed}
-use Rattle.answers.proofs.Agreed.{head-held, agreed-within}
+use Rattle.answers.proofs.Agreed.{agreed-within}
 use Rattle.answers.proofs.Numbering.{is-within}
 use Rattle.answers.proofs.times.available_at.Statement.{statement}
 use Rattle.answers.proofs.times.available_at.Tie as tie
@@ -18,7 +19,7 @@ found-available-requires : tie.Need-found-available-requires
 found-available-requires c κs =
     let clock = c .before in
     let told-agreed = told _ _ (clock .before .before .before .agrees .ensures) (clock .before .before .if1 .left) in (
-      head-held _ _ told-agreed,
+      agree-head _ _ told-agreed,
       is-within _ _ _ _ (agreed-within _ _ told-agreed) (c .kept-number .ensures),
       leb-true _ _ (told _ _ (clock .before .held .ensures) (clock .if2 .left)),
     )

@@ -1,8 +1,9 @@
 -- `verdict` meets its contract: the refusals in their order, then the verdict of the kept references.
 use borrow.Author.Needs.{needs}
 use borrow.Author.Tests.{leb-true}
+use Rattle.agreement.proofs.Agreeing.{agree-head}
 use Rattle.answers.proofs.Guards.{told, refused, allowed, at-most, above}
-use Rattle.answers.proofs.Agreed.{head-held, agreed-verdict}
+use Rattle.answers.proofs.Agreed.{agreed-verdict}
 use Rattle.answers.proofs.verdicts.verdict.Statement.{statement}
 use Rattle.answers.proofs.verdicts.verdict.Tie as tie
 
@@ -10,7 +11,7 @@ needed-at-requires : tie.Need-needed-at-requires
 needed-at-requires c κs =
     let clock = c .before .before .before in
     let agreed = clock .before .before in
-    (head-held _ _ (told _ _ (agreed .before .agrees .ensures) (agreed .if1 .left)), leb-true _ _ (told _ _ (clock .before .held .ensures) (clock .if2 .left)))
+    (agree-head _ _ (told _ _ (agreed .before .agrees .ensures) (agreed .if1 .left)), leb-true _ _ (told _ _ (clock .before .held .ensures) (clock .if2 .left)))
 
 first-kept-requires : tie.Need-first-kept-requires
 first-kept-requires c κs =

@@ -1,7 +1,8 @@
 -- `verdict_whole` meets its contract: the refusals in their order, then the verdict of the kept references.
 use borrow.Author.Needs.{needs}
+use Rattle.agreement.proofs.Agreeing.{agree-head}
 use Rattle.answers.proofs.Guards.{told, refused, allowed, unlike, like}
-use Rattle.answers.proofs.Agreed.{head-held, agreed-verdict}
+use Rattle.answers.proofs.Agreed.{agreed-verdict}
 use Rattle.answers.proofs.verdicts.verdict_whole.Statement.{statement}
 use Rattle.answers.proofs.verdicts.verdict_whole.Tie as tie
 
@@ -13,7 +14,7 @@ returns-2 c =
 needed-whole-requires : tie.Need-needed-whole-requires
 needed-whole-requires c κs =
     let agreed = c .before .before in
-    head-held _ _ (told _ _ (agreed .before .agrees .ensures) (agreed .if1 .left))
+    agree-head _ _ (told _ _ (agreed .before .agrees .ensures) (agreed .if1 .left))
 
 first-kept-requires : tie.Need-first-kept-requires
 first-kept-requires c κs =

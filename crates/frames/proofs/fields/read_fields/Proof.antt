@@ -1,5 +1,5 @@
--- `frames::fields::read_fields` meets its contract. The loop's invariant: the values read, before those that the rest of the row reads from the
--- rest of the line, are those of the whole line. The measure is what is left of the row. Assumes nothing.
+-- `fields::read_fields` meets its contract. The loop's invariant: the values read, before those that the rest of the row
+-- reads from the rest of the line, are those of the whole line. The measure is what is left of the row.
 use mathlib.Core.Path.{_≡_, refl, sym, _∙_, ap, ap₂}
 use mathlib.Core.List.{List, _∷_, _++_, append-nil}
 use Prim.Native.Nat.{ℕ, _+_, _-_, _*_, _≤_, _<_}
@@ -65,73 +65,25 @@ Inv-loop line widths values₀ at₀ i₀ values at i = Read line widths values 
 abbrev μ-loop : tie.MeasureT-loop
 μ-loop line widths values₀ at₀ i₀ values at i = length widths - i
 
-loop-holds : tie.Need-loop-holds Inv-loop μ-loop
-loop-holds c = search (needs, begun)
-
-mul-end : tie.Need-mul-end Inv-loop μ-loop
-mul-end c = search needs
-
-shared-slice-read-end : tie.Need-shared-slice-read-end Inv-loop μ-loop
-shared-slice-read-end c = search needs
-
-mul-end-2 : tie.Need-mul-end-2 Inv-loop μ-loop
-mul-end-2 c = search (needs, double-fits)
-
-add-end : tie.Need-add-end Inv-loop μ-loop
-add-end c = search (needs, end-fits)
-
-sub-number : tie.Need-sub-number Inv-loop μ-loop
-sub-number c = search needs
-
-part-number-start : tie.Need-part-number-start Inv-loop μ-loop
-part-number-start c = search needs
-
-part-number-end : tie.Need-part-number-end Inv-loop μ-loop
-part-number-end c = search (needs, end-within)
-
-number-requires : tie.Need-number-requires Inv-loop μ-loop
-number-requires c κs = search (needs, few-digits)
-
-mul-values : tie.Need-mul-values Inv-loop μ-loop
-mul-values c = search needs
-
-slice-write-values : tie.Need-slice-write-values Inv-loop μ-loop
-slice-write-values c = search needs
-
-add-i : tie.Need-add-i Inv-loop μ-loop
-add-i c = search needs
-
-loop-less : tie.Need-loop-less Inv-loop μ-loop
-loop-less c = search needs
-
-loop-again : tie.Need-loop-again Inv-loop μ-loop
-loop-again c = search (needs, turn)
-
-same-length : tie.Need-same-length Inv-loop μ-loop
-same-length c = search needs
-
-returns : tie.Need-returns Inv-loop μ-loop
-returns c = search (needs, done)
-
 pub read-fields-spec : {M : Type 1} → statement M
 read-fields-spec =
     tie.close
     (tie.spec
     Inv-loop
     μ-loop
-    loop-holds
-    mul-end
-    shared-slice-read-end
-    mul-end-2
-    add-end
-    sub-number
-    part-number-start
-    part-number-end
-    number-requires
-    mul-values
-    slice-write-values
-    add-i
-    loop-less
-    loop-again
-    same-length
-    returns)
+    (λ c. search (needs, begun))
+    (λ c. search needs)
+    (λ c. search needs)
+    (λ c. search (needs, double-fits))
+    (λ c. search (needs, end-fits))
+    (λ c. search needs)
+    (λ c. search needs)
+    (λ c. search (needs, end-within))
+    (λ c κs. search (needs, few-digits))
+    (λ c. search needs)
+    (λ c. search needs)
+    (λ c. search needs)
+    (λ c. search needs)
+    (λ c. search (needs, turn))
+    (λ c. search needs)
+    (λ c. search (needs, done)))

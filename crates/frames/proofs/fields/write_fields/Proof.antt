@@ -1,5 +1,5 @@
--- `frames::fields::write_fields` meets its contract. The loop's invariant: what is written, before the digits of the fields to come, is the line,
--- and what lies behind is as it came. The measure is what is left of the row. Assumes nothing.
+-- `fields::write_fields` meets its contract. The loop's invariant: what is written, before the digits of the fields to come,
+-- is the line, and what lies behind is as it came. The measure is what is left of the row.
 use mathlib.Core.Path.{_≡_, refl, sym, _∙_, ap, ap₂}
 use mathlib.Core.List.{List, _∷_, _++_, append-nil, append-assoc}
 use Prim.Native.Nat.{ℕ, _+_, _-_, _*_, _≤_, _<_}
@@ -88,81 +88,27 @@ Inv-loop out₀ widths values at₀ i₀ out at i = Written out₀ widths values
 abbrev μ-loop : tie.MeasureT-loop
 μ-loop out₀ widths values at₀ i₀ out at i = length widths - i
 
-loop-holds : tie.Need-loop-holds Inv-loop μ-loop
-loop-holds c = search (needs, begun)
-
-mul-end : tie.Need-mul-end Inv-loop μ-loop
-mul-end c = search needs
-
-shared-slice-read-end : tie.Need-shared-slice-read-end Inv-loop μ-loop
-shared-slice-read-end c = search needs
-
-mul-end-2 : tie.Need-mul-end-2 Inv-loop μ-loop
-mul-end-2 c = search (needs, double-fits)
-
-add-end : tie.Need-add-end Inv-loop μ-loop
-add-end c = search (needs, end-fits)
-
-sub-write-digits : tie.Need-sub-write-digits Inv-loop μ-loop
-sub-write-digits c = search needs
-
-part-write-digits-start : tie.Need-part-write-digits-start Inv-loop μ-loop
-part-write-digits-start c = search needs
-
-part-write-digits-end : tie.Need-part-write-digits-end Inv-loop μ-loop
-part-write-digits-end c = search (needs, part-within)
-
-mul-write-digits : tie.Need-mul-write-digits Inv-loop μ-loop
-mul-write-digits c = search needs
-
-shared-slice-read-write-digits : tie.Need-shared-slice-read-write-digits Inv-loop μ-loop
-shared-slice-read-write-digits c = search needs
-
-write-digits-requires : tie.Need-write-digits-requires Inv-loop μ-loop
-write-digits-requires c κs = search needs
-
-add-i : tie.Need-add-i Inv-loop μ-loop
-add-i c = search needs
-
-loop-less : tie.Need-loop-less Inv-loop μ-loop
-loop-less c = search needs
-
-loop-again : tie.Need-loop-again Inv-loop μ-loop
-loop-again c = search (needs, turn)
-
-slice-write-out : tie.Need-slice-write-out Inv-loop μ-loop
-slice-write-out c = search needs
-
-add-result : tie.Need-add-result Inv-loop μ-loop
-add-result c = search needs
-
-same-length : tie.Need-same-length Inv-loop μ-loop
-same-length c = search needs
-
-returns : tie.Need-returns Inv-loop μ-loop
-returns c = search (needs, length-done, done)
-
 pub write-fields-spec : {M : Type 1} → statement M
 write-fields-spec =
     tie.close
     (tie.spec
     Inv-loop
     μ-loop
-    loop-holds
-    mul-end
-    shared-slice-read-end
-    mul-end-2
-    add-end
-    sub-write-digits
-    part-write-digits-start
-    part-write-digits-end
-    mul-write-digits
-    shared-slice-read-write-digits
-    write-digits-requires
-    add-i
-    loop-less
-    loop-again
-    slice-write-out
-    add-result
-    same-length
-    returns)
+    (λ c. search (needs, begun))
+    (λ c. search needs)
+    (λ c. search needs)
+    (λ c. search (needs, double-fits))
+    (λ c. search (needs, end-fits))
+    (λ c. search needs)
+    (λ c. search needs)
+    (λ c. search (needs, part-within))
+    (λ c. search needs)
+    (λ c. search needs)
+    (λ c κs. search needs)
+    (λ c. search needs)
+    (λ c. search needs)
+    (λ c. search (needs, turn))
+    (λ c. search needs)
+    (λ c. search needs)
+    (λ c. search needs)
+    (λ c. search (needs, length-done, done)))

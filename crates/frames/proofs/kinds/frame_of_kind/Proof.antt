@@ -1,4 +1,4 @@
--- `frames::kinds::frame_of_kind` meets its contract: in each arm the kind is the number matched. Assumes nothing.
+-- `kinds::frame_of_kind` meets its contract: in each arm the kind is the number matched.
 use borrow.Author.Tests.{ne-eqb}
 use Rattle.frames.specs.Frames.{frameAs}
 use Rattle.frames.proofs.kinds.frame_of_kind.Statement.{statement}

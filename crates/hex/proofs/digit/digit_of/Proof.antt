@@ -1,4 +1,4 @@
--- `hex::digit::digit_of` meets its contract. Assumes nothing.
+-- `digit::digit_of` meets its contract: below ten a decimal digit, else a letter.
 use borrow.Author.Needs.{needs}
 use borrow.Author.Tests.{lt-ltb, le-ltb}
 use native.Mathlib.Omega.{arith}

@@ -1,5 +1,4 @@
--- `hex::digit::is_digit` meets its contract: the tests place the byte under, in or over each of the two ranges.
--- Assumes nothing.
+-- `digit::is_digit` meets its contract: the tests place the byte under, in or over each of the two ranges.
 use native.Mathlib.Omega.{arith}
 use Rattle.hex.specs.Digits.{isDigit}
 use Rattle.hex.proofs.Single.{between-from, between-in, between-under, between-over}

@@ -1,4 +1,4 @@
--- `hex::digit::value` meets its contract: a digit up to '9' is a decimal one, and one past it a letter. Assumes nothing.
+-- `digit::value` meets its contract: a digit up to '9' is a decimal one, and one past it a letter.
 use mathlib.Core.Path.{_≡_, sym, _∙_}
 use mathlib.Core.Bool.{Bool, true, false, not}
 use Prim.Native.Nat.{ℕ, _+_, _-_, _≤_, _<_}
@@ -30,31 +30,16 @@ module _ (b : ℕ) (t : Bool) (d : t ≡ isDigit b) where
     letter : 57 < b → (b - 97) + 10 ≡ valueOf b
     letter g = by-digit b digit (λ l h. omega arith) (λ l h. rw (value-letter b l h) (omega arith))
 
-returns : tie.Need-returns
-returns c = search (needs, none)
-
-sub-result : tie.Need-sub-result
-sub-result c = search (needs, from-zero)
-
-returns-2 : tie.Need-returns-2
-returns-2 c = search (needs, decimal)
-
-sub-result-2 : tie.Need-sub-result-2
-sub-result-2 c = search (needs, from-a)
-
-returns-3 : tie.Need-returns-3
-returns-3 c = search (needs, letter)
-
 pub value-spec : {M : Type 1} → statement M
 value-spec =
     tie.close
     (tie.spec
     (λ c κs. search needs)
-    returns
-    sub-result
+    (λ c. search (needs, none))
+    (λ c. search (needs, from-zero))
     (λ c. search needs)
-    returns-2
-    sub-result-2
+    (λ c. search (needs, decimal))
+    (λ c. search (needs, from-a))
     (λ c. search needs)
     (λ c. search needs)
-    returns-3)
+    (λ c. search (needs, letter)))

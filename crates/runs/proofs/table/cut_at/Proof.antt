@@ -1,7 +1,6 @@
 -- `table::cut_at` meets its contract. The runs passed hold all but `into` of the references that go.
 use Prim.Native.Nat.{_+_, _-_, _≤_}
 use mathlib.Core.Path.{_≡_}
-use native.Mathlib.Nat.{le-of-lt}
 use lib.ListN.{length, take}
 use borrow.Author.Needs.{needs}
 use Rattle.runs.specs.Words.{runsOf, referencesOf}
@@ -29,7 +28,7 @@ cut-at-spec =
     Inv-loop
     μ-loop
     (λ c. (search needs, search (needs, cut-none)))
-    (λ c. search (needs, words-fit, le-of-lt))
+    (λ c. search (needs, words-fit))
     (λ c κs. search (needs, place-there))
     returns
     (λ c. search needs)

@@ -1,7 +1,6 @@
 -- `table::ended_by` meets its contract. The references of the runs passed are counted, those of the others are left.
 use Prim.Native.Nat.{_+_, _-_, _≤_}
 use mathlib.Core.Path.{_≡_}
-use native.Mathlib.Nat.{le-of-lt}
 use lib.ListN.{drop}
 use borrow.Author.Needs.{needs}
 use Rattle.runs.specs.Words.{runsOf, referencesOf, keptIn}
@@ -24,7 +23,7 @@ ended-by-spec =
     Inv-loop
     μ-loop
     (λ c. search needs)
-    (λ c. search (needs, words-fit, le-of-lt))
+    (λ c. search (needs, words-fit))
     (λ c κs. search (needs, place-there))
     (λ c κs. search (needs, span-lasts))
     (λ c. search (needs, ended-fits))
