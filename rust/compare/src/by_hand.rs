@@ -2,17 +2,18 @@
 //! "Window, needed, spent", and "Errors we expect someone to make". Each goes through both sides
 //! and through the program, and is held to what the paper says.
 
+use flonterri::words::word;
+
 use crate::face::Faces;
-use crate::inputs::Programs;
-use crate::program::{difference, plain_answer};
+use crate::inputs::{hold, on_input, plain_answer, Programs};
+use crate::opening::Opening;
 use crate::sequence::compare_step;
-use crate::state::word;
-use crate::step::{Answer, Call, Lent, Opening, Step};
-use crate::text::{bytes_of, shown, Line, ALL_ONES};
+use crate::step::{Answer, Call, Lent, Step};
+use crate::text::{bytes_of, clock_line, Line, ALL_ONES};
 
 /// What the paper says of a call.
 #[derive(Clone, Debug, Default)]
-pub struct Said {
+struct Said {
     number: u32,
     out: Option<Vec<u64>>,
     record: Vec<(usize, u64)>,
@@ -94,7 +95,7 @@ impl Said {
 }
 
 /// A case: an opening, and calls with what the paper says of each.
-pub struct Case {
+struct Case {
     name: &'static str,
     opening: Opening,
     calls: Vec<(Call, Said)>,
@@ -104,21 +105,11 @@ pub struct Case {
 const TABLE_WORDS: usize = 30;
 
 /// The file of case B after its trim at 18,000.
-pub const WORKED_FILE: &str = "\
+const WORKED_FILE: &str = "\
 01000003e8000000000000000000000000000000000000000000000000000000000000271000000003
 020000000000001f4000000fa000000002
 0300000001
 ";
-
-const NOTHING: Opening = Opening {
-    timescale: 1000,
-    offset: 0,
-    start: 0,
-    duration: 0,
-    depth: 0,
-    first_number: 0,
-    first_tick: 0,
-};
 
 const CASE_A: Opening = Opening {
     timescale: 10,
@@ -126,24 +117,24 @@ const CASE_A: Opening = Opening {
     start: 30_000,
     duration: 10_000,
     first_tick: 111,
-    ..NOTHING
+    ..Opening::OPEN_ENDED
 };
 
 const CASE_B: Opening = Opening {
     depth: 10_000,
     first_number: 1,
-    ..NOTHING
+    ..Opening::OPEN_ENDED
 };
 
 const CASE_C: Opening = Opening {
     first_tick: 4_294_970_000,
-    ..NOTHING
+    ..Opening::OPEN_ENDED
 };
 
 const CASE_D: Opening = Opening {
     timescale: 3,
     duration: 500,
-    ..NOTHING
+    ..Opening::OPEN_ENDED
 };
 
 fn append(start: u64, duration: u32, count: u32) -> Call {
@@ -291,69 +282,78 @@ fn half_ticks() -> Case {
         opening: Opening {
             timescale: 500,
             depth: 14,
-            ..NOTHING
+            ..Opening::OPEN_ENDED
         },
         calls: vec![(verdict(21), out(&[2, 8, 0, 3, 0]))],
     }
 }
 
-/// The errors that are not shown by the cases above.
-fn expected_errors() -> Vec<Case> {
-    vec![
-        Case {
-            name: "B trimmed at 14,001 keeps the reference from 4,000",
-            opening: CASE_B,
-            calls: vec![
-                (append(0, 4000, 5), accepted()),
-                (trim(14_001), accepted().front(&[4000, 4000, 4])),
-            ],
-        },
-        Case {
-            name: "what hangs over the period end is spent with the period",
-            opening: Opening {
-                duration: 1_000,
-                depth: 100,
-                ..NOTHING
-            },
-            calls: vec![
-                (append(0, 750, 2), accepted()),
-                (trim(1_099), accepted().front(&[750, 750, 1])),
-                (trim(1_100), accepted().front(&[])),
-            ],
-        },
-        Case {
-            name: "next tick and number outlive an emptied table",
-            opening: CASE_B,
-            calls: vec![
-                (append(0, 4000, 5), accepted()),
-                (
-                    trim(1_000_000),
-                    accepted().front(&[]).record(word::NEXT_TICK, 20_000),
-                ),
-                (append(20_001, 4000, 1), refused(4)),
-                (append(19_999, 4000, 1), refused(5)),
-                (append(20_000, 980_000, 1), accepted()),
-                (Call::Availability { number: 5 }, refused(13)),
-                (
-                    Call::Availability { number: 6 },
-                    out(&[1, 1_000_000_000, 1_990_000_000]),
-                ),
-            ],
-        },
-    ]
+/// An expected error: judging a reference by its start.
+fn judged_by_its_end() -> Case {
+    Case {
+        name: "B trimmed at 14,001 keeps the reference from 4,000",
+        opening: CASE_B,
+        calls: vec![
+            (append(0, 4000, 5), accepted()),
+            (trim(14_001), accepted().front(&[4000, 4000, 4])),
+        ],
+    }
 }
 
-/// All cases of calls.
-pub fn cases() -> Vec<Case> {
+/// An expected error: dropping by end alone.
+fn spent_with_the_period() -> Case {
+    Case {
+        name: "what hangs over the period end is spent with the period",
+        opening: Opening {
+            duration: 1_000,
+            depth: 100,
+            ..Opening::OPEN_ENDED
+        },
+        calls: vec![
+            (append(0, 750, 2), accepted()),
+            (trim(1_099), accepted().front(&[750, 750, 1])),
+            (trim(1_100), accepted().front(&[])),
+        ],
+    }
+}
+
+/// An expected error: forgetting the next tick or number when a trim empties the table.
+fn emptied_table() -> Case {
+    Case {
+        name: "next tick and number outlive an emptied table",
+        opening: CASE_B,
+        calls: vec![
+            (append(0, 4000, 5), accepted()),
+            (
+                trim(1_000_000),
+                accepted().front(&[]).record(word::NEXT_TICK, 20_000),
+            ),
+            (append(20_001, 4000, 1), refused(4)),
+            (append(19_999, 4000, 1), refused(5)),
+            (append(20_000, 980_000, 1), accepted()),
+            (Call::Availability { number: 5 }, refused(13)),
+            (
+                Call::Availability { number: 6 },
+                out(&[1, 1_000_000_000, 1_990_000_000]),
+            ),
+        ],
+    }
+}
+
+/// All cases of calls. The other expected errors, a rounded period end and a rounded percent, are
+/// shown by D and by B.
+fn cases() -> Vec<Case> {
     let mut cases = vec![
         case_a(),
         case_b_verdicts(),
         case_b_trims(),
         case_d(),
         half_ticks(),
+        judged_by_its_end(),
+        spent_with_the_period(),
+        emptied_table(),
     ];
     cases.extend(cases_c());
-    cases.extend(expected_errors());
     cases
 }
 
@@ -380,7 +380,7 @@ pub fn judge_calls(faces: &Faces) -> Result<u64, String> {
 }
 
 /// Inputs of the program with the line that the paper has for each.
-pub fn program_cases() -> Vec<(Vec<u8>, &'static str)> {
+fn program_cases() -> Vec<(Vec<u8>, &'static str)> {
     let case_b = [
         Line::Head(CASE_B),
         Line::S {
@@ -394,10 +394,8 @@ pub fn program_cases() -> Vec<(Vec<u8>, &'static str)> {
         let s = Line::S { t: 0, d: 1, r };
         [Line::Head(CASE_D), s, Line::End(1)]
     };
-    let asked = |clock: u64, lines: &[Line]| {
-        [&bytes_of(&[Line::Clock(clock)]), &bytes_of(lines)[..]].concat()
-    };
-    let worked = |clock: u64| [&bytes_of(&[Line::Clock(clock)]), WORKED_FILE.as_bytes()].concat();
+    let asked = |clock: u64, lines: &[Line]| [clock_line(clock), bytes_of(lines)].concat();
+    let worked = |clock: u64| [&clock_line(clock), WORKED_FILE.as_bytes()].concat();
     let upper = String::from_utf8_lossy(&asked(0, &case_b)).replace("fa0", "FA0");
     vec![
         (asked(0, &case_b), "nothing needed"),
@@ -422,20 +420,16 @@ pub fn program_cases() -> Vec<(Vec<u8>, &'static str)> {
 /// Holds the program and the plain one to the paper's lines, and answers how many inputs there
 /// were.
 pub fn judge_inputs(programs: &Programs) -> Result<u64, String> {
+    let by_hand = |failure| format!("by hand: {}", failure);
     let mut inputs = 0;
     for (input, line) in program_cases() {
         let answer = format!("{}\n", line);
-        if plain_answer(&input) != answer {
-            return Err(format!(
-                "by hand: plain answers {:?} and not {:?} to\n{}",
-                plain_answer(&input),
-                line,
-                shown(&input)
-            ));
+        let plain = plain_answer(&input);
+        if plain != answer {
+            let what = format!("plain answers {:?} and not {:?}", plain, answer);
+            return Err(by_hand(on_input(&what, &input)));
         }
-        if let Some(what) = difference(&programs.desk.run(&input, usize::MAX), &answer) {
-            return Err(format!("by hand: desk {} on\n{}", what, shown(&input)));
-        }
+        hold(&programs.desk, &input, &answer).map_err(by_hand)?;
         inputs += 1;
     }
     Ok(inputs)

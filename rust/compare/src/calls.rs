@@ -4,8 +4,9 @@ use std::panic::{self, AssertUnwindSafe};
 
 use crate::face::Faces;
 use crate::generator::Generator;
-use crate::inputs::inputs_of;
+use crate::inputs::file_of;
 use crate::kinds;
+use crate::limits::PROGRAM_TABLE_WORDS;
 use crate::sequence::{compare_step, Made, Sequence};
 use crate::step::{Call, Lent, Step};
 use crate::tally::Tally;
@@ -58,13 +59,11 @@ fn run_or_panic(run: impl FnOnce() -> Option<String>) -> Option<String> {
 }
 
 /// Words of the tables that case files are read into.
-const TABLES: [usize; 5] = [0, 3, 7, 40, crate::limits::PROGRAM_TABLE_WORDS];
+const TABLES: [usize; 5] = [0, 3, 7, 40, PROGRAM_TABLE_WORDS];
 
 /// Reads a case file through both sides into several tables, and writes what was read.
 pub fn judge_case_file(faces: &Faces, bytes: &[u8]) -> Result<u64, String> {
-    // The first input is the case file itself, the next its file behind a clock line.
-    let with_clock = &inputs_of(bytes)[1];
-    let file = &with_clock[crate::text::clock_line(0).len()..];
+    let file = file_of(bytes);
     let mut calls = 0;
     for table_words in TABLES {
         let read = Step::of(Call::Read {

@@ -3,8 +3,10 @@
 use flonterri::words;
 use plain::face as plain_face;
 
+use crate::opening::Opening;
+
 /// A call that opens.
-pub type Open = fn(&mut [u64], &mut [u64], u32, u64, u64, u64, u64, u32, u64) -> u32;
+pub type Open = fn(&mut [u64], &mut [u64], &Opening) -> u32;
 /// An append by full tick.
 pub type Append = fn(&mut [u64], &mut [u64], u64, u32, u32) -> u32;
 /// An append by stamp.
@@ -54,7 +56,7 @@ pub struct Face {
 /// The proved archive.
 pub const ARCHIVE: Face = Face {
     name: "archive",
-    open: words::open,
+    open: |record, table, opening| open_by_fields(words::open, record, table, opening),
     append: words::append,
     append_stamp: words::append_stamp,
     trim: words::trim,
@@ -69,7 +71,7 @@ pub const ARCHIVE: Face = Face {
 /// The plain implementation.
 pub const PLAIN: Face = Face {
     name: "plain",
-    open: plain_face::open,
+    open: |record, table, opening| open_by_fields(plain_face::open, record, table, opening),
     append: plain_face::append,
     append_stamp: plain_face::append_stamp,
     trim: plain_face::trim,
@@ -80,6 +82,28 @@ pub const PLAIN: Face = Face {
     read: plain_face::read,
     write: plain_face::write,
 };
+
+/// An opening as the sides have it, each field by itself.
+type OpenByFields = fn(&mut [u64], &mut [u64], u32, u64, u64, u64, u64, u32, u64) -> u32;
+
+fn open_by_fields(
+    open: OpenByFields,
+    record: &mut [u64],
+    table: &mut [u64],
+    opening: &Opening,
+) -> u32 {
+    open(
+        record,
+        table,
+        opening.timescale,
+        opening.offset,
+        opening.start,
+        opening.duration,
+        opening.depth,
+        opening.first_number,
+        opening.first_tick,
+    )
+}
 
 /// Two sides that must answer alike.
 #[derive(Clone, Copy)]

@@ -2,17 +2,17 @@
 
 use std::fs;
 use std::io;
+use std::panic;
 use std::path::{Path, PathBuf};
 
 use crate::generator::Generator;
 use crate::kinds;
 use crate::limits;
-use crate::program::{difference, plain_answer, Outcome, Program};
-use crate::random;
+use crate::program::{Outcome, Program};
+use crate::random::inputs::light_input;
 use crate::shorten::shorten;
 use crate::tally::Tally;
 use crate::text::{clock_line, shown, ALL_ONES};
-use crate::weight::is_light_input;
 
 /// One in so many inputs is also given to the plain program, run as a process.
 const PLAIN_PROCESS_EVERY: u64 = 10;
@@ -39,63 +39,85 @@ pub struct Range {
 /// Gives random inputs to both. The number of those left out since the plain side cannot keep
 /// their references, or the first that is answered differently.
 pub fn random_inputs(programs: &Programs, range: Range, tally: &mut Tally) -> Result<u64, String> {
-    let mut left_out = 0;
+    let mut all_left_out = 0;
     for case in range.from..range.from + range.many {
         let mut generator = Generator::of_case(range.seed, case);
-        let mut input = random::inputs::input(&mut generator);
-        while !is_light_input(&input) {
-            left_out += 1;
-            input = random::inputs::input(&mut generator);
-        }
-        let piece = generator.pick(&[usize::MAX, usize::MAX, 1, 7, 96, 4096]);
-        let piece = if input.len() > 2_000 {
-            piece.max(96)
-        } else {
-            piece
-        };
+        let (input, left_out) = light_input(&mut generator);
+        all_left_out += left_out;
+        let piece = piece_for(&mut generator, &input);
         let desk = |input: &[u8]| programs.desk.run(input, piece);
-        judge(&desk, &plain_answer, &input, tally).map_err(|difference| {
+        let mut outcome = judge(&desk, &input, tally);
+        if case % PLAIN_PROCESS_EVERY == 0 {
+            outcome = outcome.and_then(|()| judge_plain_process(programs, &input));
+        }
+        outcome.map_err(|failure| {
             format!(
-                "{}seed {}, input {}: again with --seed {} --from {} --inputs 1",
-                difference, range.seed, case, range.seed, case
+                "{}\nseed {}, input {}: again with --seed {} --from {} --inputs 1",
+                failure, range.seed, case, range.seed, case
             )
         })?;
-        if case % PLAIN_PROCESS_EVERY == 0 {
-            judge_plain_process(programs, &input)?;
-        }
     }
-    Ok(left_out)
+    Ok(all_left_out)
 }
 
-/// Gives one input to both and counts what it met.
+/// The size of the pieces in which an input comes; a long one byte by byte would take too long.
+fn piece_for(generator: &mut Generator, input: &[u8]) -> usize {
+    let piece = generator.pick(&[usize::MAX, usize::MAX, 1, 7, 96, 4096]);
+    let least = if input.len() > 2_000 { 96 } else { 1 };
+    piece.max(least)
+}
+
+/// The plain answer to an input. A panic is an answer too, one that no program gives.
+pub fn plain_answer(input: &[u8]) -> String {
+    panic::catch_unwind(|| plain::desk::answer(input))
+        .unwrap_or_else(|_| "plain panicked".to_string())
+}
+
+/// Gives one input to both and counts what it met. A difference is shown on the fewest lines that
+/// have it; an input that gets no answer is shown whole, since each try would take the full time.
 pub fn judge(
-    desk: &dyn Fn(&[u8]) -> Outcome,
-    plain: &dyn Fn(&[u8]) -> String,
+    desk: &dyn Fn(&[u8]) -> Result<Outcome, String>,
     input: &[u8],
     tally: &mut Tally,
 ) -> Result<(), String> {
-    let differs = |input: &[u8]| difference(&desk(input), &plain(input));
-    if differs(input).is_some() {
-        let lines = input.split_inclusive(|byte| *byte == b'\n');
-        let lines: Vec<&[u8]> = lines.collect();
-        let fewer = shorten(lines, |lines| differs(&lines.concat()).is_some());
+    let difference = |input: &[u8]| -> Result<Option<String>, String> {
+        Ok(desk(input)?.difference(&plain_answer(input)))
+    };
+    let differs = difference(input).map_err(|failure| on_input(&failure, input))?;
+    if differs.is_some() {
+        let lines = input.split_inclusive(|byte| *byte == b'\n').collect();
+        let fewer = shorten(lines, |lines: &[&[u8]]| {
+            let differs = difference(&lines.concat());
+            differs.ok().map(|what| what.is_some())
+        });
         let shorter = fewer.concat();
-        let what = differs(&shorter).unwrap_or_else(|| "differs now and then".to_string());
-        return Err(format!("desk {} on\n{}\n", what, shown(&shorter)));
+        let what = difference(&shorter)?.unwrap_or_else(|| "differs now and then".to_string());
+        return Err(on_input(&format!("desk {}", what), &shorter));
     }
-    kinds::meet_input(tally, input, plain(input).trim_end());
+    kinds::meet_input(tally, input, plain_answer(input).trim_end());
     Ok(())
 }
 
 fn judge_plain_process(programs: &Programs, input: &[u8]) -> Result<(), String> {
-    let program = match &programs.plain_desk {
-        Some(program) => program,
-        None => return Ok(()),
-    };
-    match difference(&program.run(input, usize::MAX), &plain_answer(input)) {
+    match &programs.plain_desk {
+        Some(program) => hold(program, input, &plain_answer(input)),
         None => Ok(()),
-        Some(what) => Err(format!("{} {} on\n{}", program.name, what, shown(input))),
     }
+}
+
+/// Holds what a program answers to what it should.
+pub fn hold(program: &Program, input: &[u8], answer: &str) -> Result<(), String> {
+    let outcome = program.run(input, usize::MAX);
+    let outcome = outcome.map_err(|failure| on_input(&failure, input))?;
+    match outcome.difference(answer) {
+        None => Ok(()),
+        Some(what) => Err(on_input(&format!("{} {}", program.name, what), input)),
+    }
+}
+
+/// A failure and the input that it was met on.
+pub fn on_input(failure: &str, input: &[u8]) -> String {
+    format!("{} on\n{}", failure, shown(input))
 }
 
 /// The case files of the project: the examples, what its programs read, and their data.
@@ -133,13 +155,17 @@ fn entries(folder: &Path) -> io::Result<Vec<PathBuf>> {
     Ok(paths)
 }
 
-/// The inputs that a case file makes: itself, and its file behind several clock lines.
-pub fn inputs_of(bytes: &[u8]) -> Vec<Vec<u8>> {
+/// The file of a case file: all but a clock line.
+pub fn file_of(bytes: &[u8]) -> &[u8] {
     let first_line = bytes.split_inclusive(|byte| *byte == b'\n').next();
-    let file = match first_line {
+    match first_line {
         Some(line) if line.starts_with(b"04") => &bytes[line.len()..],
         _ => bytes,
-    };
+    }
+}
+
+/// The inputs that a case file makes: itself, and its file behind several clock lines.
+pub fn inputs_of(bytes: &[u8]) -> Vec<Vec<u8>> {
     let clocks = [
         0,
         500,
@@ -151,7 +177,7 @@ pub fn inputs_of(bytes: &[u8]) -> Vec<Vec<u8>> {
         limits::MILLIS + 1,
         ALL_ONES,
     ];
-    let with_clock = |clock: &u64| [&clock_line(*clock), file].concat();
+    let with_clock = |clock: &u64| [&clock_line(*clock), file_of(bytes)].concat();
     let mut inputs = vec![bytes.to_vec()];
     inputs.extend(clocks.iter().map(with_clock));
     inputs
@@ -164,7 +190,7 @@ pub fn judge_case_file(programs: &Programs, bytes: &[u8]) -> Result<u64, String>
     let desk = |input: &[u8]| programs.desk.run(input, usize::MAX);
     let mut many = 0;
     for input in inputs_of(bytes) {
-        judge(&desk, &plain_answer, &input, &mut uncounted)?;
+        judge(&desk, &input, &mut uncounted)?;
         judge_plain_process(programs, &input)?;
         many += 1;
     }

@@ -12,11 +12,13 @@
 //! - in the program, 11, since reading leaves the greatest clock at 0, and whatever a file cannot
 //!   have.
 
+use flonterri::words::RUN_WORDS;
+
 use crate::sequence::Made;
 use crate::state::State;
 use crate::step::{Call, Step};
 use crate::tally::Tally;
-use crate::text::{s_fields, ALL_ONES};
+use crate::text::{clock_line, s_fields, ALL_ONES};
 
 /// The numbers that each call can answer.
 const NUMBERS: [(&str, &[&str]); 10] = [
@@ -75,7 +77,8 @@ const REFUSED_LINES: [&str; 31] = [
     "18 S with negative r",
 ];
 
-const TAKEN: [&str; 5] = [
+/// What an append can do with its references.
+const TAKEN: &[&str] = &[
     "all stored",
     "spent in part",
     "spent at once",
@@ -83,16 +86,13 @@ const TAKEN: [&str; 5] = [
     "into the last run",
 ];
 
-/// Announces what the calls must meet.
-pub fn announce_calls(tally: &mut Tally) {
-    for (call, numbers) in NUMBERS {
-        tally.announce(call, numbers);
-    }
-    tally.announce("lengths", &["another record", "another out"]);
-    tally.announce("damaged words", &["agree", "disagree"]);
-    tally.announce("append taken", &TAKEN);
-    tally.announce("append_stamp taken", &TAKEN);
-    tally.announce(
+/// The ways in which calls can go besides their numbers.
+const WAYS: [(&str, &[&str]); 12] = [
+    ("lengths", &["another record", "another out"]),
+    ("damaged words", &["agree", "disagree"]),
+    ("append taken", TAKEN),
+    ("append_stamp taken", TAKEN),
+    (
         "trim dropped",
         &[
             "nothing, clock not later",
@@ -102,15 +102,15 @@ pub fn announce_calls(tally: &mut Tally) {
             "whole runs and part",
             "all",
         ],
-    );
-    tally.announce("verdict kind", &["nothing needed", "complete", "lacking"]);
-    tally.announce("verdict_whole kind", &["complete", "lacking"]);
-    tally.announce("availability kind", &["never ends", "ends"]);
-    tally.announce(
+    ),
+    ("verdict kind", &["nothing needed", "complete", "lacking"]),
+    ("verdict_whole kind", &["complete", "lacking"]),
+    ("availability kind", &["never ends", "ends"]),
+    (
         "touching part",
         &["no run", "one of several runs", "some runs", "all runs"],
-    );
-    tally.announce(
+    ),
+    (
         "read accepted",
         &[
             "keeps all",
@@ -119,9 +119,9 @@ pub fn announce_calls(tally: &mut Tally) {
             "lines share a run",
             "negative r",
         ],
-    );
-    tally.announce("read refused", &REFUSED_LINES);
-    tally.announce(
+    ),
+    ("read refused", &REFUSED_LINES),
+    (
         "write accepted",
         &[
             "one S line",
@@ -129,7 +129,14 @@ pub fn announce_calls(tally: &mut Tally) {
             "just the room",
             "room left",
         ],
-    );
+    ),
+];
+
+/// Announces what the calls must meet.
+pub fn announce_calls(tally: &mut Tally) {
+    for (group, items) in NUMBERS.iter().chain(&WAYS) {
+        tally.announce(group, items);
+    }
 }
 
 /// Announces what the program's inputs must meet.
@@ -265,7 +272,7 @@ fn verdict_kind(word: u64) -> &'static str {
 }
 
 fn part(made: &Made, out: &[u64]) -> &'static str {
-    let runs = (out[1] - out[0]) / 3;
+    let runs = (out[1] - out[0]) / RUN_WORDS as u64;
     let all = before(made).runs.len() as u64;
     match runs {
         0 => "no run",
@@ -332,7 +339,7 @@ fn kind_of_line(file: &[u8], line: u64, number: u32) -> &'static str {
 
 /// Counts what an input of the program has met, by the line that it answers.
 pub fn meet_input(tally: &mut Tally, input: &[u8], answer: &str) {
-    let whole = input.starts_with(&crate::text::clock_line(ALL_ONES));
+    let whole = input.starts_with(&clock_line(ALL_ONES));
     let group = if whole {
         "desk, whole period"
     } else {

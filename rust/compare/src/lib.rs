@@ -8,23 +8,25 @@
 
 pub mod arguments;
 pub mod bench;
-pub mod by_hand;
-pub mod calls;
 pub mod face;
-pub mod generator;
-pub mod inputs;
-pub mod kinds;
-pub mod limits;
-pub mod program;
-pub mod random;
 pub mod report;
-pub mod sequence;
-pub mod shorten;
-pub mod state;
-pub mod step;
-pub mod tally;
-pub mod text;
-pub mod weight;
+
+mod by_hand;
+mod calls;
+mod generator;
+mod inputs;
+mod kinds;
+mod limits;
+mod opening;
+mod program;
+mod random;
+mod sequence;
+mod shorten;
+mod state;
+mod step;
+mod tally;
+mod text;
+mod weight;
 
 #[cfg(test)]
 mod tests;

@@ -2,12 +2,12 @@
 
 use std::fs;
 use std::path::PathBuf;
-use std::time::Instant;
+use std::time::{Duration, Instant};
 
 use crate::arguments::{Arguments, Part};
 use crate::face::Faces;
 use crate::inputs::{self, Programs, Range};
-use crate::program::Program;
+use crate::program::{Program, LIMIT};
 use crate::tally::Tally;
 use crate::weight::is_light_input;
 use crate::{by_hand, calls, kinds};
@@ -37,7 +37,7 @@ pub fn compare(arguments: &Arguments, faces: &Faces) -> Result<(), String> {
 
 fn hand(arguments: &Arguments, faces: &Faces) -> Result<(), String> {
     let calls = by_hand::judge_calls(faces)?;
-    let inputs = by_hand::judge_inputs(&programs(arguments)?)?;
+    let inputs = by_hand::judge_inputs(&programs(arguments, LIMIT)?)?;
     println!(
         "by hand: {} calls and {} inputs as the paper says, on both sides",
         calls, inputs
@@ -49,7 +49,7 @@ fn files(arguments: &Arguments, faces: &Faces) -> Result<(), String> {
     let root = &arguments.root;
     let files =
         inputs::case_files(root).map_err(|error| format!("{} below {}", error, root.display()))?;
-    let programs = programs(arguments)?;
+    let programs = programs(arguments, LIMIT)?;
     let (mut inputs, mut calls) = (0, 0);
     for path in &files {
         let of_file = |failure| format!("{}\nof {}", failure, path.display());
@@ -81,7 +81,7 @@ fn random_inputs(arguments: &Arguments, tally: &mut Tally) -> Result<(), String>
         from: arguments.from,
         many: arguments.inputs,
     };
-    let left_out = inputs::random_inputs(&programs(arguments)?, range, tally)?;
+    let left_out = inputs::random_inputs(&programs(arguments, LIMIT)?, range, tally)?;
     println!(
         "inputs: {} alike, {} left out for their size, {:.1} s",
         range.many,
@@ -118,11 +118,12 @@ fn judge_tally(arguments: &Arguments, tally: &Tally) -> Result<(), String> {
     Ok(())
 }
 
-/// The programs that the arguments name.
-pub fn programs(arguments: &Arguments) -> Result<Programs, String> {
+/// The programs that the arguments name, and how long each may take for an input.
+pub fn programs(arguments: &Arguments, limit: Duration) -> Result<Programs, String> {
     let program = |name, path: &PathBuf| Program {
         name,
         path: path.clone(),
+        limit,
     };
     let desk = arguments.desk.as_ref().ok_or("--desk is needed")?;
     let plain_desk = arguments.plain_desk.as_ref();

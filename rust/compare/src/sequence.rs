@@ -57,7 +57,7 @@ impl Sequence {
             steps: steps.to_vec(),
         };
         let steps = shorten(self.steps.clone(), |steps| {
-            with(steps).run(faces, |_| ()).is_err()
+            Some(with(steps).run(faces, |_| ()).is_err())
         });
         with(&steps)
     }

@@ -1,7 +1,8 @@
 //! Shortening a case that fails.
 
 /// Drops parts of a failing case, many at a time and then one by one, as long as it still fails.
-pub fn shorten<T: Clone>(case: Vec<T>, mut fails: impl FnMut(&[T]) -> bool) -> Vec<T> {
+/// Where that cannot be told, none, it stops.
+pub fn shorten<T: Clone>(case: Vec<T>, mut fails: impl FnMut(&[T]) -> Option<bool>) -> Vec<T> {
     let mut case = case;
     let mut many = case.len();
     while many > 0 {
@@ -9,10 +10,10 @@ pub fn shorten<T: Clone>(case: Vec<T>, mut fails: impl FnMut(&[T]) -> bool) -> V
         while at < case.len() {
             let end = (at + many).min(case.len());
             let shorter = [&case[..at], &case[end..]].concat();
-            if fails(&shorter) {
-                case = shorter;
-            } else {
-                at = end;
+            match fails(&shorter) {
+                Some(true) => case = shorter,
+                Some(false) => at = end,
+                None => return case,
             }
         }
         many /= 2;

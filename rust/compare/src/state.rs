@@ -1,24 +1,12 @@
 //! The words of a record and a table by name, for choosing what to try next. The words may be
 //! anything; nothing here judges.
 
-use crate::limits;
-use crate::step::{Lent, Opening};
+use flonterri::words::{word, RUN_WORDS};
 
-/// Where each word of a record stands.
-#[allow(missing_docs)]
-pub mod word {
-    pub const TIMESCALE: usize = 0;
-    pub const OFFSET: usize = 1;
-    pub const START: usize = 2;
-    pub const DURATION: usize = 3;
-    pub const DEPTH: usize = 4;
-    pub const FIRST_NUMBER: usize = 5;
-    pub const ACCEPTED: usize = 6;
-    pub const DROPPED: usize = 7;
-    pub const NEXT_TICK: usize = 8;
-    pub const GREATEST_CLOCK: usize = 9;
-    pub const RUNS_USED: usize = 10;
-}
+use crate::limits;
+use crate::opening::Opening;
+use crate::step::Lent;
+use crate::text::{head_fields, s_fields, ALL_ONES};
 
 /// A run's words.
 #[derive(Clone, Copy, Debug, PartialEq, Eq)]
@@ -83,7 +71,7 @@ impl State {
             greatest_clock: at(word::GREATEST_CLOCK),
             runs: lent
                 .table
-                .chunks_exact(3)
+                .chunks_exact(RUN_WORDS)
                 .map(|words| Run {
                     start: words[0],
                     duration: words[1],
@@ -109,6 +97,29 @@ impl State {
             greatest_clock: 0,
             runs: Vec::new(),
         }
+    }
+
+    /// About what a reading of a file leaves, its runs aside: it stops at the first line that a
+    /// limit refuses. None where no head stands first.
+    pub fn after_reading(file: &[u8]) -> Option<State> {
+        let mut lines = file.split(|byte| *byte == b'\n');
+        let mut state = State::opened(&head_fields(lines.next()?)?);
+        for (at, (t, d, r)) in lines.map_while(s_fields).enumerate() {
+            if at == 0 && t != ALL_ONES {
+                state.next_tick = t;
+            }
+            let count = match u64::try_from(r) {
+                Ok(repeats) => repeats + 1,
+                Err(_) => state.count_to_period_end(d).unwrap_or(0),
+            };
+            if state.passes_limits(d, count) {
+                break;
+            }
+            state.dropped += state.spent_at_once(d, count);
+            state.accepted += count;
+            state.next_tick += u64::from(d) * count;
+        }
+        Some(state)
     }
 
     /// True where no timeline has been opened here, or a refusal has zeroed it.

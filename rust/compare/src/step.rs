@@ -1,28 +1,9 @@
 //! One call with its arguments and the memory lent to it, and what it answers.
 
+use flonterri::words::RECORD_WORDS;
+
 use crate::face::Face;
-
-/// Words of a record.
-pub const RECORD_WORDS: usize = 11;
-
-/// What an opening is given.
-#[derive(Clone, Copy, Debug, PartialEq, Eq)]
-pub struct Opening {
-    /// Ticks a second.
-    pub timescale: u32,
-    /// Presentation time offset.
-    pub offset: u64,
-    /// Period start.
-    pub start: u64,
-    /// Period duration; 0: end unknown.
-    pub duration: u64,
-    /// Window depth; 0: none given.
-    pub depth: u64,
-    /// First number.
-    pub first_number: u32,
-    /// First tick.
-    pub first_tick: u64,
-}
+use crate::opening::Opening;
 
 /// A call and its arguments.
 #[derive(Clone, Debug, PartialEq, Eq)]
@@ -229,17 +210,7 @@ impl Answer {
     fn make(&mut self, face: &Face, call: &Call) -> u32 {
         let (record, table, out) = (&mut self.record, &mut self.table, &mut self.out);
         match call {
-            Call::Open(opening) => (face.open)(
-                record,
-                table,
-                opening.timescale,
-                opening.offset,
-                opening.start,
-                opening.duration,
-                opening.depth,
-                opening.first_number,
-                opening.first_tick,
-            ),
+            Call::Open(opening) => (face.open)(record, table, opening),
             Call::Append {
                 start,
                 duration,

@@ -1,6 +1,6 @@
 //! The lines of a file and of the program's input. Paper: "The file".
 
-use crate::step::Opening;
+use crate::opening::Opening;
 
 /// The t of an S line that has none, and the clock that asks for the whole period.
 pub const ALL_ONES: u64 = u64::MAX;
@@ -23,13 +23,11 @@ pub enum Line {
     End(u32),
     /// A clock line.
     Clock(u64),
-    /// Anything else, without its line feed.
-    Text(Vec<u8>),
 }
 
 impl Line {
     /// The line without its line feed.
-    pub fn text(&self) -> Vec<u8> {
+    pub fn text(&self) -> String {
         match self {
             Line::Head(head) => format!(
                 "01{:08x}{:016x}{:016x}{:016x}{:016x}{:08x}",
@@ -39,12 +37,10 @@ impl Line {
                 head.duration,
                 head.depth,
                 head.first_number
-            )
-            .into_bytes(),
-            Line::S { t, d, r } => format!("02{:016x}{:08x}{:08x}", t, d, r).into_bytes(),
-            Line::End(s_lines) => format!("03{:08x}", s_lines).into_bytes(),
-            Line::Clock(clock) => format!("04{:016x}", clock).into_bytes(),
-            Line::Text(text) => text.clone(),
+            ),
+            Line::S { t, d, r } => format!("02{:016x}{:08x}{:08x}", t, d, r),
+            Line::End(s_lines) => format!("03{:08x}", s_lines),
+            Line::Clock(clock) => format!("04{:016x}", clock),
         }
     }
 }
@@ -53,7 +49,7 @@ impl Line {
 pub fn bytes_of(lines: &[Line]) -> Vec<u8> {
     let mut bytes = Vec::new();
     for line in lines {
-        bytes.extend(line.text());
+        bytes.extend(line.text().bytes());
         bytes.push(b'\n');
     }
     bytes
@@ -65,7 +61,7 @@ pub fn clock_line(clock: u64) -> Vec<u8> {
 }
 
 /// The fields of a line of lower-case digits that has the kind and just these widths, in digits.
-pub fn fields<const N: usize>(line: &[u8], kind: &str, widths: [usize; N]) -> Option<[u64; N]> {
+fn fields<const N: usize>(line: &[u8], kind: &str, widths: [usize; N]) -> Option<[u64; N]> {
     let text = std::str::from_utf8(line).ok()?;
     let good = |byte: u8| byte.is_ascii_digit() || (b'a'..=b'f').contains(&byte);
     let digits = text.strip_prefix(kind)?;

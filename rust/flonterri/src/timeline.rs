@@ -5,7 +5,7 @@ use std::ops::Range;
 use crate::answers::{Availability, Runs, Verdict};
 use crate::refusal::{Refusal, RefusedFile};
 use crate::units::{Millis, Number, Span, Stamp, Tick, Timescale};
-use crate::words::{self, RECORD_WORDS, RUN_WORDS};
+use crate::words::{self, word, RECORD_WORDS, RUN_WORDS};
 
 /// Bytes of a written head line and end line, with their line feeds.
 const HEAD_AND_END_BYTES: usize = 83 + 11;
@@ -84,21 +84,6 @@ impl Head {
 pub struct Timeline {
     record: [u64; RECORD_WORDS],
     table: Vec<u64>,
-}
-
-/// Where each word of a record stands.
-mod word {
-    pub const TIMESCALE: usize = 0;
-    pub const OFFSET: usize = 1;
-    pub const START: usize = 2;
-    pub const DURATION: usize = 3;
-    pub const DEPTH: usize = 4;
-    pub const FIRST_NUMBER: usize = 5;
-    pub const ACCEPTED: usize = 6;
-    pub const DROPPED: usize = 7;
-    pub const NEXT_TICK: usize = 8;
-    pub const GREATEST_CLOCK: usize = 9;
-    pub const RUNS_USED: usize = 10;
 }
 
 /// The calls that change. A refused call changes nothing.

@@ -3,10 +3,9 @@
 //! Most programs want [`Timeline`](crate::Timeline), which owns its memory. These calls are for
 //! memory that is kept elsewhere, in a file or shared with another process.
 //!
-//! Each answers the refusal number, 0 where accepted. A record is [`RECORD_WORDS`] words:
-//! timescale, offset, start, duration, depth, first number, accepted, dropped, next tick, greatest
-//! clock, runs used. A table has three words for each run: start, duration, count. Words of any
-//! value and slices of any length are taken: what cannot be a timeline is refused.
+//! Each answers the refusal number, 0 where accepted. A record is [`RECORD_WORDS`] words, in the
+//! order that [`word`] tells. A table has [`RUN_WORDS`] words for each run: start, duration, count.
+//! Words of any value and slices of any length are taken: what cannot be a timeline is refused.
 //!
 //! A record that is not of 11 words is 2; then an `out` that is not of its length is 15; both
 //! leave all memory as it came. A refusal leaves `out` as it came, but for the line of a refused
@@ -18,6 +17,32 @@ pub const RECORD_WORDS: usize = 11;
 
 /// Words of a run in the table.
 pub const RUN_WORDS: usize = 3;
+
+/// Where each word of a record stands.
+pub mod word {
+    /// Ticks a second.
+    pub const TIMESCALE: usize = 0;
+    /// Presentation time offset, in ticks.
+    pub const OFFSET: usize = 1;
+    /// Period start, in milliseconds.
+    pub const START: usize = 2;
+    /// Period duration, in milliseconds; 0: the end is unknown.
+    pub const DURATION: usize = 3;
+    /// Window depth, in milliseconds; 0: none is given.
+    pub const DEPTH: usize = 4;
+    /// The number of the first reference.
+    pub const FIRST_NUMBER: usize = 5;
+    /// How many references were accepted.
+    pub const ACCEPTED: usize = 6;
+    /// How many of them were dropped.
+    pub const DROPPED: usize = 7;
+    /// Where the next reference must start.
+    pub const NEXT_TICK: usize = 8;
+    /// The greatest clock of all trims.
+    pub const GREATEST_CLOCK: usize = 9;
+    /// How many runs of the table are used.
+    pub const RUNS_USED: usize = 10;
+}
 
 /// The functions of the archive. A slice passes as its pointer and its length.
 mod archive {

@@ -1,4 +1,4 @@
-//! The paper's cases A, B and D, and some of C, through the safe calls.
+//! The paper's cases through the safe calls, and what the safe calls add to the archive's.
 
 use flonterri::{
     Availability, Grain, Head, Millis, Number, Refusal, RefusedFile, Run, Span, Stamp, Tick,

@@ -4,8 +4,10 @@
 //! ```text
 //! cargo run --example cases < ../../crates/cases/stdin > ../../crates/cases/stdout
 //! ```
-use plain::{face, record};
-use std::io::Read;
+use std::io::{self, Read};
+
+use plain::face;
+use plain::record::{self, RECORD_WORDS};
 
 /// The numbers behind the name of a call; those that it does not have are 0.
 fn numbers(step: &str) -> [u64; 7] {
@@ -17,29 +19,20 @@ fn numbers(step: &str) -> [u64; 7] {
 }
 
 /// The number of a call that changes, or nothing for one that looks.
-fn change(name: &str, record: &mut [u64], table: &mut [u64], s: &[u64; 7]) -> Option<u32> {
+fn change(name: &str, record: &mut [u64], table: &mut [u64], numbers: [u64; 7]) -> Option<u32> {
+    let [a, b, c, d, e, f, g] = numbers;
     let number = match name {
-        "open" => face::open(
-            record,
-            table,
-            s[0] as u32,
-            s[1],
-            s[2],
-            s[3],
-            s[4],
-            s[5] as u32,
-            s[6],
-        ),
-        "append" => face::append(record, table, s[0], s[1] as u32, s[2] as u32),
-        "stamp" => face::append_stamp(record, table, s[0] as u32, s[1] as u32, s[2] as u32),
-        "trim" => face::trim(record, table, s[0]),
+        "open" => face::open(record, table, a as u32, b, c, d, e, f as u32, g),
+        "append" => face::append(record, table, a, b as u32, c as u32),
+        "stamp" => face::append_stamp(record, table, a as u32, b as u32, c as u32),
+        "trim" => face::trim(record, table, a),
         _ => return None,
     };
     Some(number)
 }
 
 fn words(list: &[u64]) -> String {
-    list.iter().map(|w| format!(" {}", w)).collect()
+    list.iter().map(|word| format!(" {}", word)).collect()
 }
 
 /// The words of a verdict, or of a call that fits the same row.
@@ -47,25 +40,27 @@ fn row(number: u32, out: &[u64]) -> String {
     format!(" {} |{}", number, words(out))
 }
 
-/// Whether it ends; its points are asked by `clock`, at the clocks around them.
+/// Whether an availability ends; its points are asked by `clock`, at the clocks around them.
 fn availability(record: &[u64], table: &[u64], number: u64) -> String {
     let mut out = [0i64; 3];
     let answer = face::availability(record, table, number as u32, &mut out);
     row(answer, &[out[0] as u64, 0, 0, 0, 0])
 }
 
-fn look(name: &str, record: &[u64], table: &[u64], s: &[u64; 7]) -> String {
+/// The row of a call that looks.
+fn look(name: &str, record: &[u64], table: &[u64], numbers: [u64; 7]) -> String {
+    let [a, b, ..] = numbers;
     let mut out = [0u64; 5];
     match name {
-        "verdict" => row(face::verdict(record, table, s[0], &mut out), &out),
+        "verdict" => row(face::verdict(record, table, a, &mut out), &out),
         "whole" => row(face::verdict_whole(record, table, &mut out), &out),
-        "number" => availability(record, table, s[0]),
+        "number" => availability(record, table, a),
         "runs" => {
-            let number = face::touching(record, table, s[0], s[1], &mut out[..2]);
+            let number = face::touching(record, table, a, b, &mut out[..2]);
             out[2] = out[1] - out[0];
             row(number, &out)
         }
-        "clock" => match record::available_at(record, table, s[0] as u32, s[1]) {
+        "clock" => match record::available_at(record, table, a as u32, b) {
             Ok(yes) => row(0, &[yes as u64, 0, 0, 0, 0]),
             Err(refusal) => row(refusal.number(), &[0; 5]),
         },
@@ -74,14 +69,14 @@ fn look(name: &str, record: &[u64], table: &[u64], s: &[u64; 7]) -> String {
 }
 
 fn run(steps: &str, length: usize) {
-    let mut table = vec![9u64; length];
-    let mut record = vec![0u64; 11];
+    let mut table = vec![9; length];
+    let mut record = [0; RECORD_WORDS];
     for step in steps.lines().filter(|step| !step.starts_with('#')) {
         let name = step.split(' ').next().expect("a name");
-        let s = numbers(step);
-        let answer = match change(name, &mut record, &mut table, &s) {
+        let numbers = numbers(step);
+        let answer = match change(name, &mut record, &mut table, numbers) {
             Some(number) => format!(" {} |{} |{}", number, words(&record), words(&table)),
-            None => look(name, &record, &table, &s),
+            None => look(name, &record, &table, numbers),
         };
         println!("{}:{}", step, answer);
     }
@@ -89,7 +84,7 @@ fn run(steps: &str, length: usize) {
 
 fn main() {
     let mut steps = String::new();
-    std::io::stdin()
+    io::stdin()
         .read_to_string(&mut steps)
         .expect("the steps on standard input");
     for length in [7, 3, 2, 0] {

@@ -80,11 +80,6 @@ impl Timeline {
         self.greatest_clock
     }
 
-    /// The kept references.
-    pub fn kept(&self) -> &[Reference] {
-        &self.kept
-    }
-
     /// The used runs.
     pub fn runs(&self) -> Vec<Run> {
         runs_of(&self.kept)

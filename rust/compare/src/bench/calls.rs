@@ -1,12 +1,12 @@
 //! Mixed appends and trims through the archive and through a plain vector of references.
 
-use std::time::Duration;
+use flonterri::words::{word, RECORD_WORDS};
 
 use super::vector::Vector;
-use super::{timed, times};
+use super::{race, Side, Unit};
 use crate::face::ARCHIVE;
-use crate::state::word;
-use crate::step::{Opening, RECORD_WORDS};
+use crate::limits::PROGRAM_TABLE_WORDS;
+use crate::opening::Opening;
 
 /// An append of one reference, or a trim.
 #[derive(Clone, Copy)]
@@ -41,38 +41,28 @@ const CHANNELS: [Channel; 3] = [
         name: "1,000 alternating durations: as many runs kept, a table of 1,024 runs",
         depth: 2_001_000,
         references_a_run: 1,
-        table_words: 3072,
+        table_words: PROGRAM_TABLE_WORDS,
     },
 ];
 
 /// Times every channel.
 pub fn run(calls: u64, rounds: u64) -> Result<(), String> {
+    let unit = Unit {
+        name: "ns a call",
+        in_a_second: 1e9 / calls as f64,
+    };
     for channel in &CHANNELS {
         let made = channel.calls(calls);
-        let mut best: Option<(Duration, Duration)> = None;
-        for _ in 0..rounds {
-            let (ours, our_time) = timed(|| channel.through_archive(&made));
-            let (plain, plain_time) = timed(|| channel.through_vector(&made));
-            if ours != plain {
-                return Err(format!(
-                    "the archive leaves {:?}, the vector {:?}",
-                    ours, plain
-                ));
-            }
-            best = Some(match best {
-                None => (our_time, plain_time),
-                Some((a, b)) => (a.min(our_time), b.min(plain_time)),
-            });
-        }
-        let (our_time, plain_time) = best.ok_or("no round")?;
-        let a_call = |time: Duration| time.as_secs_f64() * 1e9 / calls as f64;
         println!("{} appends and trims, {}", calls, channel.name);
-        println!("  archive  {:8.1} ns a call", a_call(our_time));
-        println!("  vector   {:8.1} ns a call", a_call(plain_time));
-        println!(
-            "  the archive takes {:.2} times as long",
-            times(our_time, plain_time)
-        );
+        let archive = Side {
+            name: "archive",
+            work: &|| Ok(channel.through_archive(&made)),
+        };
+        let vector = Side {
+            name: "vector",
+            work: &|| Ok(channel.through_vector(&made)),
+        };
+        race(rounds, &unit, &archive, &vector)?;
     }
     Ok(())
 }
@@ -80,13 +70,9 @@ pub fn run(calls: u64, rounds: u64) -> Result<(), String> {
 impl Channel {
     fn head(&self) -> Opening {
         Opening {
-            timescale: 1000,
-            offset: 0,
-            start: 0,
-            duration: 0,
             depth: self.depth,
             first_number: 1,
-            first_tick: 0,
+            ..Opening::OPEN_ENDED
         }
     }
 
@@ -105,20 +91,9 @@ impl Channel {
 
     /// Accepted, dropped, next tick and greatest clock after all calls through the archive.
     fn through_archive(&self, calls: &[Call]) -> [u64; 4] {
-        let head = self.head();
         let mut record = [0; RECORD_WORDS];
         let mut table = vec![0; self.table_words];
-        let mut numbers = (ARCHIVE.open)(
-            &mut record,
-            &mut table,
-            head.timescale,
-            head.offset,
-            head.start,
-            head.duration,
-            head.depth,
-            head.first_number,
-            head.first_tick,
-        );
+        let mut numbers = (ARCHIVE.open)(&mut record, &mut table, &self.head());
         for call in calls {
             numbers |= match *call {
                 Call::Append { start, duration } => {

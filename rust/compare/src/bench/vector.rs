@@ -4,7 +4,7 @@
 //! nobody else can reach its memory, and it has no table that could be full.
 
 use crate::limits;
-use crate::step::Opening;
+use crate::opening::Opening;
 
 #[derive(Clone, Copy)]
 struct Reference {
@@ -42,6 +42,28 @@ impl Vector {
 
     /// Appends references; the refusal number, 0 where accepted.
     pub fn append(&mut self, start: u64, duration: u32, count: u32) -> u32 {
+        let refusal = self.refusal(start, duration, count);
+        if refusal != 0 {
+            return refusal;
+        }
+        for _ in 0..count {
+            let reference = Reference {
+                start: self.next_tick,
+                duration,
+            };
+            if self.spent(reference) {
+                self.dropped += 1;
+            } else {
+                self.references.push(reference);
+            }
+            self.next_tick += u64::from(duration);
+        }
+        self.accepted += u64::from(count);
+        0
+    }
+
+    /// The number that an append is refused with, 0 where it is not.
+    fn refusal(&self, start: u64, duration: u32, count: u32) -> u32 {
         if duration == 0 || count == 0 {
             return 3;
         }
@@ -60,26 +82,10 @@ impl Vector {
         if accepted > limits::ACCEPTED || first_number + accepted > limits::NUMBER {
             return 7;
         }
-        let last_start = start + ticks - u64::from(duration);
-        if self
-            .period_end()
-            .map_or(false, |end| self.place(last_start) >= end)
-        {
+        let last_place = self.place(start + ticks - u64::from(duration));
+        if self.period_end().map_or(false, |end| last_place >= end) {
             return 8;
         }
-        for index in 0..u64::from(count) {
-            let reference = Reference {
-                start: start + index * u64::from(duration),
-                duration,
-            };
-            if self.spent(reference) {
-                self.dropped += 1;
-            } else {
-                self.references.push(reference);
-            }
-        }
-        self.accepted = accepted;
-        self.next_tick = start + ticks;
         0
     }
 

@@ -1,10 +1,12 @@
 //! Words to change before a call: single ones, and several that fit together but for one rule of
 //! agreement, so that each rule is asked by itself.
 
+use flonterri::words::{word, RECORD_WORDS, RUN_WORDS};
+
 use crate::generator::Generator;
 use crate::limits;
-use crate::state::{word, Run, State};
-use crate::step::{Damage, Lent, Place, RECORD_WORDS};
+use crate::state::{Run, State};
+use crate::step::{Damage, Lent, Place};
 
 /// Changed words; none where the chosen change has no place in this memory.
 pub fn damage(generator: &mut Generator, lent: &Lent) -> Vec<Damage> {
@@ -27,13 +29,17 @@ fn record(at: usize, word: u64) -> Damage {
     }
 }
 
-/// The three words of a run.
+fn table(at: usize, word: u64) -> Damage {
+    Damage {
+        place: Place::Table(at),
+        word,
+    }
+}
+
+/// The words of a run.
 fn run(at: usize, run: Run) -> impl Iterator<Item = Damage> {
     let words = [run.start, run.duration, run.count];
-    (0..3).map(move |part| Damage {
-        place: Place::Table(3 * at + part),
-        word: words[part],
-    })
+    (0..RUN_WORDS).map(move |part| table(RUN_WORDS * at + part, words[part]))
 }
 
 fn one_word(generator: &mut Generator, lent: &Lent) -> Damage {
@@ -90,10 +96,7 @@ fn emptied(generator: &mut Generator, state: &State, table_words: usize) -> Vec<
         record(word::NEXT_TICK, next_tick),
         record(word::RUNS_USED, 0),
     ];
-    damage.extend((0..table_words).map(|at| Damage {
-        place: Place::Table(at),
-        word: 0,
-    }));
+    damage.extend((0..table_words).map(|at| table(at, 0)));
     damage
 }
 
@@ -105,11 +108,9 @@ fn run_made_longer(generator: &mut Generator, state: &State) -> Vec<Damage> {
     };
     let more = generator.between(1, 3);
     let ticks = last.duration.wrapping_mul(more);
+    let last_word = RUN_WORDS * state.runs.len() - 1;
     let mut damage = vec![
-        Damage {
-            place: Place::Table(3 * (state.runs.len() - 1) + 2),
-            word: last.count.wrapping_add(more),
-        },
+        table(last_word, last.count.wrapping_add(more)),
         record(word::ACCEPTED, state.accepted.wrapping_add(more)),
         record(word::NEXT_TICK, state.next_tick.wrapping_add(ticks)),
     ];
@@ -123,7 +124,7 @@ fn run_made_longer(generator: &mut Generator, state: &State) -> Vec<Damage> {
 fn run_split(generator: &mut Generator, state: &State, table_words: usize) -> Vec<Damage> {
     let used = state.runs.len();
     let last = match state.runs.last() {
-        Some(last) if last.count > 1 && used < table_words / 3 => *last,
+        Some(last) if last.count > 1 && used < table_words / RUN_WORDS => *last,
         _ => return Vec::new(),
     };
     let first = Run {
@@ -145,7 +146,7 @@ fn run_split(generator: &mut Generator, state: &State, table_words: usize) -> Ve
 /// round to where it starts.
 fn run_added(generator: &mut Generator, state: &State, table_words: usize) -> Vec<Damage> {
     let used = state.runs.len();
-    if used >= table_words / 3 {
+    if used >= table_words / RUN_WORDS {
         return Vec::new();
     }
     let bits = generator.between(1, 20);
@@ -171,17 +172,15 @@ fn gap_between_runs(generator: &mut Generator, state: &State) -> Vec<Damage> {
         return Vec::new();
     }
     let later = generator.one_in(2);
-    let moved = |tick: u64| match later {
-        true => tick.wrapping_add(1),
-        false => tick.wrapping_sub(1),
+    let moved = |tick: u64| {
+        if later {
+            tick.wrapping_add(1)
+        } else {
+            tick.wrapping_sub(1)
+        }
     };
     let mut damage = vec![record(word::NEXT_TICK, moved(state.next_tick))];
     let from = generator.between(1, used as u64 - 1) as usize;
-    for at in from..used {
-        damage.push(Damage {
-            place: Place::Table(3 * at),
-            word: moved(state.runs[at].start),
-        });
-    }
+    damage.extend((from..used).map(|at| table(RUN_WORDS * at, moved(state.runs[at].start))));
     damage
 }

@@ -2,9 +2,9 @@
 
 use crate::generator::Generator;
 use crate::limits;
+use crate::opening::Opening;
 use crate::random::{heads, mutations};
 use crate::state::State;
-use crate::step::Opening;
 use crate::text::{bytes_of, Line, ALL_ONES};
 
 /// What is wrong with an S line.
@@ -60,13 +60,10 @@ pub fn file(generator: &mut Generator) -> Vec<u8> {
 pub fn file_of_many_runs(generator: &mut Generator) -> Vec<u8> {
     let lines = generator.pick(&[1_023, 1_024, 1_024, 1_025, 1_025, 1_025, 1_026]);
     let head = Opening {
-        timescale: 1000,
         offset: generator.pick(&[0, 0, 3]),
-        start: 0,
         duration: generator.pick(&[0, 1_600, 1_600]),
         depth: generator.pick(&[0, 500]),
-        first_number: 0,
-        first_tick: 0,
+        ..Opening::OPEN_ENDED
     };
     let plan = Plan {
         lines,
@@ -86,13 +83,9 @@ pub fn file_of_many_runs(generator: &mut Generator) -> Vec<u8> {
 pub fn file_of_many_lines(generator: &mut Generator) -> Vec<u8> {
     let many = generator.between(500, 3_000);
     let head = Opening {
-        timescale: 1000,
-        offset: 0,
-        start: 0,
-        duration: 0,
         depth: generator.pick(&[0, 500]),
         first_number: 7,
-        first_tick: 0,
+        ..Opening::OPEN_ENDED
     };
     let mut lines = vec![Line::Head(head)];
     let change = generator.below(many);
@@ -115,7 +108,8 @@ fn file_of(generator: &mut Generator, lines: u64) -> Vec<u8> {
     };
     let flawed = generator.percent(30);
     let negative = if flawed { 40 } else { 15 };
-    let at = generator.pick(&[0, lines - 1, generator.clone().below(lines)]);
+    let any = generator.below(lines);
+    let at = generator.pick(&[0, lines - 1, any]);
     let plan = Plan {
         lines,
         flaw: Some((at, generator.pick(&FLAWS))).filter(|_| flawed),
@@ -148,37 +142,49 @@ fn lines_of(generator: &mut Generator, head: Opening, plan: &Plan) -> Vec<Line> 
     };
     let mut duration = 0;
     for at in 0..many {
-        let last = at + 1 == many;
         duration = next_duration(generator, plan, at, duration);
-        let mut t = start(generator, &mut state, at);
-        let mut d = duration;
-        let mut count = few_before_the_end(generator, &state, plan, d);
-        match plan.flaw {
-            Some((flawed, flaw)) if flawed == at => {
-                spoil(generator, &state, flaw, &mut t, &mut d, &mut count);
-            }
-            _ => {}
-        }
-        let r = match last && plan.negative {
-            true => generator.pick(&[-1, -1, -2, i32::MIN]),
-            false => (count - 1) as i32,
+        let Fields { t, d, count } = fields(generator, &mut state, plan, at, duration);
+        let r = if plan.negative && at + 1 == many {
+            generator.pick(&[-1, -1, -2, i32::MIN])
+        } else {
+            (count - 1) as i32
         };
         lines.push(Line::S { t, d, r });
-        state.next_tick = state
-            .next_tick
-            .saturating_add(u64::from(d).saturating_mul(count));
+        let ticks = u64::from(d).saturating_mul(count);
+        state.next_tick = state.next_tick.saturating_add(ticks);
         state.accepted += count;
     }
     if plan.one_more {
-        let r = generator.pick(&[0, -1]);
         lines.push(Line::S {
             t: ALL_ONES,
             d: duration,
-            r,
+            r: generator.pick(&[0, -1]),
         });
     }
     lines.push(Line::End(lines.len() as u32 - 1));
     lines
+}
+
+/// The fields of an S line, its count in place of r.
+struct Fields {
+    t: u64,
+    d: u32,
+    count: u64,
+}
+
+/// The fields of a line by the plan: good ones, or with the flaw that is planned for it.
+fn fields(generator: &mut Generator, state: &mut State, plan: &Plan, at: u64, d: u32) -> Fields {
+    let mut fields = Fields {
+        t: start(generator, state, at),
+        d,
+        count: few_before_the_end(generator, state, plan, d),
+    };
+    if let Some((flawed, flaw)) = plan.flaw {
+        if flawed == at {
+            spoil(generator, state, flaw, &mut fields);
+        }
+    }
+    fields
 }
 
 fn next_duration(generator: &mut Generator, plan: &Plan, at: u64, before: u32) -> u32 {
@@ -221,44 +227,41 @@ fn few_before_the_end(generator: &mut Generator, state: &State, plan: &Plan, d: 
 }
 
 /// Puts a flaw into the fields of a line.
-fn spoil(
-    generator: &mut Generator,
-    state: &State,
-    flaw: Flaw,
-    t: &mut u64,
-    d: &mut u32,
-    count: &mut u64,
-) {
+fn spoil(generator: &mut Generator, state: &State, flaw: Flaw, fields: &mut Fields) {
     let next = state.next_tick;
+    let to_tick_limit = |d: u32| limits::TICK.saturating_sub(next) / u64::from(d);
     match flaw {
-        Flaw::ZeroDuration => *d = 0,
-        Flaw::Gap => *t = next.saturating_add(generator.between(1, 3)),
-        Flaw::Overlap => *t = next.saturating_sub(generator.between(1, 3)),
+        Flaw::ZeroDuration => fields.d = 0,
+        Flaw::Gap => fields.t = next.saturating_add(generator.between(1, 3)),
+        Flaw::Overlap => fields.t = next.saturating_sub(generator.between(1, 3)),
         Flaw::FarStart => {
-            *t = generator.pick(&[limits::TICK, limits::TICK + 1, ALL_ONES - 1, 1 << 63]);
+            fields.t = generator.pick(&[limits::TICK, limits::TICK + 1, ALL_ONES - 1, 1 << 63]);
         }
         Flaw::PastTickLimit => {
-            let most = limits::TICK.saturating_sub(next) / u64::from(*d);
-            if most >= limits::ACCEPTED {
-                *d = u32::MAX;
+            if to_tick_limit(fields.d) >= limits::ACCEPTED {
+                fields.d = u32::MAX;
             }
-            let most = limits::TICK.saturating_sub(next) / u64::from(*d);
-            *count = (most + generator.below(2)).clamp(1, limits::ACCEPTED);
+            fields.count = most_or_one_more(generator, to_tick_limit(fields.d));
         }
         Flaw::PastCountLimit => {
             let numbers = limits::NUMBER - state.first_number.min(limits::NUMBER);
             let most = numbers.min(limits::ACCEPTED).saturating_sub(state.accepted);
-            *d = generator.between(1, 2) as u32;
-            *count = (most + generator.below(2)).clamp(1, limits::ACCEPTED);
+            fields.d = generator.between(1, 2) as u32;
+            fields.count = most_or_one_more(generator, most);
         }
         Flaw::PastPeriodEnd => {
-            let most = state.count_to_period_end(*d).unwrap_or(3);
-            *count = (most + generator.below(2)).clamp(1, limits::ACCEPTED);
+            let most = state.count_to_period_end(fields.d).unwrap_or(3);
+            fields.count = most_or_one_more(generator, most);
         }
         Flaw::StartsPastPeriodEnd => {
             let ticks = u128::from(state.duration) * u128::from(state.timescale) / 1000;
             let end = (u128::from(state.offset) + ticks).min(u128::from(u64::MAX)) as u64;
-            *t = generator.near(end);
+            fields.t = generator.near(end);
         }
     }
+}
+
+/// The most that a limit allows, or one more, as far as an r can say it.
+fn most_or_one_more(generator: &mut Generator, most: u64) -> u64 {
+    (most + generator.below(2)).clamp(1, limits::ACCEPTED)
 }

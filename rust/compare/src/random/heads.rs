@@ -2,7 +2,7 @@
 
 use crate::generator::Generator;
 use crate::limits;
-use crate::step::Opening;
+use crate::opening::Opening;
 
 /// A head within its limits, and a first tick near its offset.
 pub fn opening(generator: &mut Generator) -> Opening {
@@ -18,12 +18,18 @@ pub fn opening(generator: &mut Generator) -> Opening {
 pub fn over_a_limit(generator: &mut Generator) -> Opening {
     let mut opening = opening(generator);
     let far = generator.one_in(3);
-    let over = |limit: u64, generator: &mut Generator| match far {
-        true => generator.between(limit + 1, u64::MAX),
-        false => limit + 1,
+    let over = |limit: u64, generator: &mut Generator| {
+        if far {
+            generator.between(limit + 1, u64::MAX)
+        } else {
+            limit + 1
+        }
     };
     match generator.below(6) {
-        0 => opening.timescale = generator.pick(&[0, 0, 10_000_001, u32::MAX]),
+        0 => {
+            let over = limits::TIMESCALE as u32 + 1;
+            opening.timescale = generator.pick(&[0, 0, over, u32::MAX]);
+        }
         1 => opening.offset = over(limits::TICK, generator),
         2 => opening.start = over(limits::MILLIS, generator),
         3 => opening.duration = over(limits::MILLIS, generator),

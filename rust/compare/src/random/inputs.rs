@@ -2,12 +2,26 @@
 
 use crate::generator::Generator;
 use crate::limits;
+use crate::opening::Opening;
 use crate::random::{clocks, files, mutations};
 use crate::state::State;
-use crate::text::{clock_line, head_fields, s_fields, ALL_ONES};
+use crate::text::{clock_line, ALL_ONES};
+use crate::weight::is_light_input;
 
-/// An input.
-pub fn input(generator: &mut Generator) -> Vec<u8> {
+/// An input that the plain program can judge in little memory, and how many that it cannot were
+/// made before it.
+pub fn light_input(generator: &mut Generator) -> (Vec<u8>, u64) {
+    let mut left_out = 0;
+    loop {
+        let input = input(generator);
+        if is_light_input(&input) {
+            return (input, left_out);
+        }
+        left_out += 1;
+    }
+}
+
+fn input(generator: &mut Generator) -> Vec<u8> {
     match generator.below(40) {
         0 => noise(generator),
         1 => over_long(generator),
@@ -37,48 +51,31 @@ fn clock_for(generator: &mut Generator, file: &[u8]) -> u64 {
     match generator.below(10) {
         0 => generator.pick(&[0, limits::MILLIS, limits::MILLIS + 1, ALL_ONES - 1]),
         1..=3 => ALL_ONES,
-        _ => clocks::clock(generator, &after_reading(file)),
-    }
-}
-
-/// About what a reading of the file leaves: enough to choose a clock by.
-fn after_reading(file: &[u8]) -> State {
-    let mut lines = file.split(|byte| *byte == b'\n');
-    let head = lines.next().and_then(head_fields);
-    let mut state = match head {
-        Some(head) => State::opened(&head),
-        None => State::of(&crate::step::Lent::anything(0)),
-    };
-    for (at, (t, d, r)) in lines.map_while(s_fields).enumerate() {
-        if at == 0 && t != ALL_ONES {
-            state.next_tick = t;
+        _ => {
+            let read = State::after_reading(file);
+            let state = read.unwrap_or_else(|| State::opened(&Opening::OPEN_ENDED));
+            clocks::clock(generator, &state)
         }
-        let count = match u64::try_from(r) {
-            Ok(repeats) => repeats + 1,
-            Err(_) => state.count_to_period_end(d).unwrap_or(1),
-        };
-        let ticks = u64::from(d).saturating_mul(count);
-        state.next_tick = state.next_tick.saturating_add(ticks);
     }
-    state
 }
 
 /// Bytes or digits of pure chance.
 fn noise(generator: &mut Generator) -> Vec<u8> {
     let length = generator.below(300);
     let digits = generator.one_in(2);
-    let mut bytes: Vec<u8> = (0..length)
-        .map(|_| match digits {
-            true => generator.pick(b"0123456789abcdef\n"),
-            false => generator.number() as u8,
-        })
-        .collect();
-    if generator.one_in(2) {
-        let mut input = clock_line(0);
-        input.append(&mut bytes);
-        return input;
-    }
-    bytes
+    let mut input = if generator.one_in(2) {
+        clock_line(0)
+    } else {
+        Vec::new()
+    };
+    input.extend((0..length).map(|_| {
+        if digits {
+            generator.pick(b"0123456789abcdef\n")
+        } else {
+            generator.number() as u8
+        }
+    }));
+    input
 }
 
 /// A line far longer than any frame, as the clock line or as one of the file.

@@ -1,7 +1,7 @@
 //! Damage to the lines and the bytes of a file.
 
 use crate::generator::Generator;
-use crate::text::Line;
+use crate::text::{Line, ALL_ONES};
 
 /// Puts lines out of order: one taken out, doubled, put elsewhere or added, or a wrong number on
 /// the end line.
@@ -33,7 +33,7 @@ pub fn reorder(generator: &mut Generator, lines: &mut Vec<Line>) {
             lines.insert(
                 at,
                 Line::S {
-                    t: u64::MAX,
+                    t: ALL_ONES,
                     d: 3,
                     r,
                 },

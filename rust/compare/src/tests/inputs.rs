@@ -1,13 +1,14 @@
 //! Wrong programs, and whether inputs find them.
 
+use std::cell::Cell;
+
 use crate::arguments::SEED;
 use crate::generator::Generator;
-use crate::inputs::{inputs_of, judge};
+use crate::inputs::{inputs_of, judge, plain_answer};
 use crate::kinds;
-use crate::program::{difference, plain_answer, Outcome};
-use crate::random::inputs::input;
+use crate::program::Outcome;
+use crate::random::inputs::light_input;
 use crate::tally::Tally;
-use crate::weight::is_light_input;
 
 fn wrote(answer: &str) -> Outcome {
     Outcome {
@@ -20,48 +21,50 @@ fn wrote(answer: &str) -> Outcome {
 #[test]
 fn an_outcome_is_held_to_all_that_is_asked() {
     let right = wrote("nothing needed\n");
-    assert_eq!(difference(&right, "nothing needed\n"), None);
-    assert!(difference(&right, "nothing needed").is_some());
-    assert!(difference(&wrote(""), "nothing needed\n").is_some());
+    assert_eq!(right.difference("nothing needed\n"), None);
+    assert!(right.difference("nothing needed").is_some());
+    assert!(wrote("").difference("nothing needed\n").is_some());
     let failing = Outcome {
         status: Some(1),
         ..right.clone()
     };
-    assert!(difference(&failing, "nothing needed\n").is_some());
+    assert!(failing.difference("nothing needed\n").is_some());
     let killed = Outcome {
         status: None,
         ..right.clone()
     };
-    assert!(difference(&killed, "nothing needed\n").is_some());
+    assert!(killed.difference("nothing needed\n").is_some());
     let talking = Outcome {
         said: b"oh".to_vec(),
         ..right
     };
-    assert!(difference(&talking, "nothing needed\n").is_some());
+    assert!(talking.difference("nothing needed\n").is_some());
 }
 
-/// The first report that a wrong program gets on random inputs.
-fn first_report(wrong: &dyn Fn(&[u8]) -> Outcome) -> Option<String> {
-    let inputs = (0..2_000).map(|case| input(&mut Generator::of_case(SEED, case)));
-    let mut light = inputs.filter(|input| is_light_input(input));
-    light.find_map(|input| judge(wrong, &plain_answer, &input, &mut Tally::default()).err())
+/// The first report that a wrong program gets on random inputs: short ones, since each line more
+/// is a try more in shortening the report.
+fn first_report(wrong: impl Fn(&[u8]) -> Outcome) -> Option<String> {
+    let wrong = |input: &[u8]| Ok(wrong(input));
+    let inputs = (0..2_000).map(|case| light_input(&mut Generator::of_case(SEED, case)).0);
+    let mut short = inputs.filter(|input| input.len() < 2_000);
+    short.find_map(|input| judge(&wrong, &input, &mut Tally::default()).err())
 }
 
 #[test]
 fn a_program_that_is_right_gets_no_report() {
-    assert_eq!(first_report(&|input| wrote(&plain_answer(input))), None);
+    assert_eq!(first_report(|input| wrote(&plain_answer(input))), None);
 }
 
 #[test]
 fn a_program_that_rounds_up() {
     let wrong = |input: &[u8]| wrote(&plain_answer(input).replace(" 99%", " 100%"));
-    assert!(first_report(&wrong).is_some());
+    assert!(first_report(wrong).is_some());
 }
 
 #[test]
 fn a_program_that_counts_lines_from_0_and_its_report_is_short() {
     let wrong = |input: &[u8]| wrote(&plain_answer(input).replace("line 2", "line 1"));
-    let report = first_report(&wrong).expect("a report");
+    let report = first_report(wrong).expect("a report");
     // The clock line, the head and at most one more line are enough.
     assert!(report.matches("\\n\n").count() <= 3, "{}", report);
 }
@@ -76,13 +79,13 @@ fn a_program_that_takes_a_carriage_return() {
             .collect();
         wrote(&plain_answer(&without))
     };
-    assert!(first_report(&wrong).is_some());
+    assert!(first_report(wrong).is_some());
 }
 
 #[test]
 fn a_program_that_takes_upper_case() {
     let wrong = |input: &[u8]| wrote(&plain_answer(&input.to_ascii_lowercase()));
-    assert!(first_report(&wrong).is_some());
+    assert!(first_report(wrong).is_some());
 }
 
 #[test]
@@ -94,7 +97,37 @@ fn a_program_that_does_not_see_an_unended_last_line() {
         }
         wrote(&plain_answer(&ended))
     };
-    assert!(first_report(&wrong).is_some());
+    assert!(first_report(wrong).is_some());
+}
+
+#[test]
+fn a_program_that_does_not_end_is_reported_at_once_with_the_whole_input() {
+    let asked = Cell::new(0);
+    let hangs = |_: &[u8]| {
+        asked.set(asked.get() + 1);
+        Err("desk did not end".to_string())
+    };
+    let report = judge(&hangs, b"04\n01\n", &mut Tally::default());
+    let report = report.expect_err("a program that hangs");
+    assert_eq!(report, "desk did not end on\n04\\n\n01\\n\n");
+    assert_eq!(asked.get(), 1);
+}
+
+#[test]
+fn a_program_that_hangs_on_a_shorter_input_still_gets_its_report() {
+    let asked = Cell::new(0);
+    let wrong = |input: &[u8]| match input {
+        b"04\n01\n" => Ok(wrote("wrong\n")),
+        _ => {
+            asked.set(asked.get() + 1);
+            Err("desk did not end".to_string())
+        }
+    };
+    let report = judge(&wrong, b"04\n01\n", &mut Tally::default());
+    let report = report.expect_err("a program that is wrong");
+    assert!(report.starts_with("desk wrote \"wrong\\n\""), "{}", report);
+    assert!(report.ends_with("on\n04\\n\n01\\n\n"), "{}", report);
+    assert_eq!(asked.get(), 1);
 }
 
 #[test]
@@ -115,12 +148,8 @@ fn the_inputs_of_the_gate_meet_every_kind() {
     let mut tally = Tally::default();
     kinds::announce_inputs(&mut tally);
     for case in 0..FEWEST_INPUTS {
-        let mut generator = Generator::of_case(SEED, case);
-        let mut made = input(&mut generator);
-        while !is_light_input(&made) {
-            made = input(&mut generator);
-        }
-        kinds::meet_input(&mut tally, &made, plain_answer(&made).trim_end());
+        let (input, _) = light_input(&mut Generator::of_case(SEED, case));
+        kinds::meet_input(&mut tally, &input, plain_answer(&input).trim_end());
     }
     assert_eq!(tally.never_met(), [""; 0]);
     assert_eq!(tally.surprises(), [""; 0]);

@@ -1,13 +1,14 @@
 //! Wrong sides, each wrong in one way, and whether random calls find it.
 
+use flonterri::words::word;
+
 use crate::calls::random_calls;
 use crate::face::{Face, Faces, PLAIN};
 use crate::generator::Generator;
-use crate::kinds;
+use crate::opening::Opening;
 use crate::sequence::Sequence;
-use crate::state::word;
 use crate::tally::Tally;
-use crate::{by_hand, limits};
+use crate::{by_hand, kinds, limits};
 
 /// Calls within which each planted fault must be found.
 const CALLS: u64 = 100_000;
@@ -45,54 +46,21 @@ fn plain_does_not_differ_from_itself() {
 
 #[test]
 fn an_opening_that_takes_an_offset_over_its_limit() {
-    let open = |record: &mut [u64],
-                table: &mut [u64],
-                timescale,
-                offset: u64,
-                start,
-                duration,
-                depth,
-                first_number,
-                first_tick| {
-        let offset = offset.min(limits::TICK);
-        (PLAIN.open)(
-            record,
-            table,
-            timescale,
-            offset,
-            start,
-            duration,
-            depth,
-            first_number,
-            first_tick,
-        )
+    let open = |record: &mut [u64], table: &mut [u64], opening: &Opening| {
+        let opening = Opening {
+            offset: opening.offset.min(limits::TICK),
+            ..*opening
+        };
+        (PLAIN.open)(record, table, &opening)
     };
     found(Face { open, ..PLAIN }, "number: 0 and 1");
 }
 
 #[test]
 fn a_refused_opening_that_leaves_the_record() {
-    let open = |record: &mut [u64],
-                table: &mut [u64],
-                timescale,
-                offset,
-                start,
-                duration,
-                depth,
-                first_number,
-                first_tick| {
+    let open = |record: &mut [u64], table: &mut [u64], opening: &Opening| {
         let before = record.to_vec();
-        let number = (PLAIN.open)(
-            record,
-            table,
-            timescale,
-            offset,
-            start,
-            duration,
-            depth,
-            first_number,
-            first_tick,
-        );
+        let number = (PLAIN.open)(record, table, opening);
         if number == 1 {
             record.copy_from_slice(&before);
         }

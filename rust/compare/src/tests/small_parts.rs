@@ -2,6 +2,7 @@
 
 use crate::arguments::{Arguments, Part, SEED};
 use crate::generator::Generator;
+use crate::opening::Opening;
 use crate::shorten::shorten;
 use crate::step::{Answer, Call, Damage, Lent, Place, Step};
 use crate::text::{bytes_of, head_fields, s_fields, shown, Line};
@@ -67,11 +68,25 @@ fn shortening_keeps_what_is_needed() {
     let mut asked = 0;
     let short = shorten(case, |case| {
         asked += 1;
-        case.contains(&17) && case.contains(&80)
+        Some(case.contains(&17) && case.contains(&80))
     });
     assert_eq!(short, [17, 80]);
     assert!(asked < 200);
-    assert_eq!(shorten(vec![1, 2, 3], |_| true), [0; 0]);
+    assert_eq!(shorten(vec![1, 2, 3], |_| Some(true)), [0; 0]);
+}
+
+#[test]
+fn shortening_stops_where_nothing_can_be_told() {
+    let mut asked = 0;
+    let short = shorten(vec![1, 2, 3, 4], |case| {
+        asked += 1;
+        match case.len() {
+            0 => Some(false),
+            2 => Some(true),
+            _ => None,
+        }
+    });
+    assert_eq!((short, asked), (vec![3, 4], 4));
 }
 
 #[test]
@@ -82,7 +97,7 @@ fn a_case_of_a_seed_is_always_the_same() {
     let first = one.number();
     assert_eq!(first, same.number());
     assert_ne!(first, other.number());
-    assert!((0..1_000).all(|_| one.between(5, 7) < 8));
+    assert!((0..1_000).all(|_| (5..=7).contains(&one.between(5, 7))));
     assert_eq!(one.between(5, 5), 5);
     one.between(0, u64::MAX);
 }
@@ -94,25 +109,20 @@ fn lines_are_made_and_read() {
         d: 4000,
         r: -2,
     };
-    assert_eq!(s.text(), b"020000000000001f4000000fa0fffffffe");
-    assert_eq!(s_fields(&s.text()), Some((8000, 4000, -2)));
+    assert_eq!(s.text(), "020000000000001f4000000fa0fffffffe");
+    assert_eq!(s_fields(s.text().as_bytes()), Some((8000, 4000, -2)));
     assert_eq!(s_fields(b"020000000000001F4000000fa0fffffffe"), None);
     assert_eq!(s_fields(b"020000000000001f4000000fa0ffffffe"), None);
-    assert_eq!(head_fields(&s.text()), None);
+    assert_eq!(head_fields(s.text().as_bytes()), None);
     assert_eq!(bytes_of(&[Line::End(1)]), b"0300000001\n");
     assert_eq!(shown(b"0\r\n\xff"), "0\\r\\n\n\\xff");
 }
 
 #[test]
 fn heavy_files_are_seen() {
-    let head = Line::Head(crate::step::Opening {
-        timescale: 1000,
+    let head = Line::Head(Opening {
         offset: 1000,
-        start: 0,
-        duration: 0,
-        depth: 0,
-        first_number: 0,
-        first_tick: 0,
+        ..Opening::OPEN_ENDED
     });
     let kept = |t, d, r| {
         let s = Line::S { t, d, r };

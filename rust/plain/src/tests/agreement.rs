@@ -2,7 +2,7 @@
 
 use super::by_hand::case_b;
 use super::literal::Literal;
-use super::sequences::{random_head, random_state};
+use super::sequences::random_states;
 use super::support::*;
 use crate::record::decode;
 use crate::units::{Millis, Tick};
@@ -239,71 +239,74 @@ fn a_reference_that_starts_at_the_period_end() {
     assert!(agrees(&lent));
 }
 
-/// Every condition of agreement by enumeration. Counts that are too large to enumerate cannot
-/// add up to the small totals of these tests, so they disagree.
-fn agrees_literally(record: &[u64], table: &[u64]) -> bool {
-    let wide: Vec<i128> = record.iter().map(|word| i128::from(*word)).collect();
+/// Every condition of agreement by enumeration, over wide words.
+fn agrees_literally(lent: &Lent) -> bool {
+    let wide = |words: &[u64]| -> Vec<i128> { words.iter().copied().map(i128::from).collect() };
+    let (record, table) = (wide(&lent.record), wide(&lent.table));
+    if !limits_held(&record) || record[RUNS_USED] > (table.len() / 3) as i128 {
+        return false;
+    }
+    let (used, unused) = table.split_at(record[RUNS_USED] as usize * 3);
+    let runs: Vec<&[i128]> = used.chunks(3).collect();
+    unused.iter().all(|word| *word == 0)
+        && counts_agree(&record, &runs)
+        && runs_join(&record, &runs)
+        && references_agree(&record, &runs)
+}
+
+const MOST_TICK: i128 = (1 << 52) - 1;
+
+fn limits_held(record: &[i128]) -> bool {
+    let most_millis = 100_000_000_000;
+    (1..=10_000_000).contains(&record[TIMESCALE])
+        && record[OFFSET] <= MOST_TICK
+        && record[NEXT_TICK] <= MOST_TICK
+        && record[START] <= most_millis
+        && record[DURATION] <= most_millis
+        && record[DEPTH] <= most_millis
+        && record[GREATEST_CLOCK] <= most_millis
+        && record[FIRST_NUMBER] < 1 << 32
+        && record[ACCEPTED] <= 1 << 31
+        && record[FIRST_NUMBER] + record[ACCEPTED] < 1 << 32
+}
+
+/// Counts that are too large to enumerate cannot add up to the small totals of these tests, so
+/// they disagree.
+fn counts_agree(record: &[i128], runs: &[&[i128]]) -> bool {
+    let total: i128 = runs.iter().map(|run| run[2]).sum();
+    record[DROPPED] <= record[ACCEPTED]
+        && total == record[ACCEPTED] - record[DROPPED]
+        && runs.iter().all(|run| (1..=100_000).contains(&run[2]))
+}
+
+fn runs_join(record: &[i128], runs: &[&[i128]]) -> bool {
+    let end = |run: &[i128]| run[0] + run[1] * run[2];
+    let joins = |pair: &[&[i128]]| end(pair[0]) == pair[1][0] && pair[0][1] != pair[1][1];
+    runs.iter().all(|run| (1..1 << 32).contains(&run[1]))
+        && runs.windows(2).all(joins)
+        && runs
+            .last()
+            .map_or(true, |run| end(run) == record[NEXT_TICK])
+}
+
+fn references_agree(record: &[i128], runs: &[&[i128]]) -> bool {
     let literal = Literal {
-        timescale: wide[TIMESCALE],
-        offset: wide[OFFSET],
-        start: wide[START],
-        duration: wide[DURATION],
-        depth: wide[DEPTH],
-        first_number: wide[FIRST_NUMBER],
+        timescale: record[TIMESCALE],
+        offset: record[OFFSET],
+        start: record[START],
+        duration: record[DURATION],
+        depth: record[DEPTH],
+        first_number: record[FIRST_NUMBER],
     };
-    let (most_tick, most_millis) = ((1 << 52) - 1, 100_000_000_000);
-    let limits_held = (1..=10_000_000).contains(&wide[TIMESCALE])
-        && wide[OFFSET] <= most_tick
-        && wide[NEXT_TICK] <= most_tick
-        && wide[START] <= most_millis
-        && wide[DURATION] <= most_millis
-        && wide[DEPTH] <= most_millis
-        && wide[GREATEST_CLOCK] <= most_millis
-        && wide[FIRST_NUMBER] < 1 << 32
-        && wide[ACCEPTED] <= 1 << 31
-        && wide[FIRST_NUMBER] + wide[ACCEPTED] < 1 << 32;
-    if !limits_held || wide[RUNS_USED] > (table.len() / 3) as i128 {
-        return false;
-    }
-    let used_words = record[RUNS_USED] as usize * 3;
-    if table[used_words..].iter().any(|word| *word != 0) {
-        return false;
-    }
-    let runs: Vec<(i128, i128, i128)> = table[..used_words]
-        .chunks(3)
-        .map(|run| (run[0].into(), run[1].into(), run[2].into()))
-        .collect();
-    let total: i128 = runs.iter().map(|run| run.2).sum();
-    if wide[DROPPED] > wide[ACCEPTED]
-        || total != wide[ACCEPTED] - wide[DROPPED]
-        || runs.iter().any(|run| run.2 == 0 || run.2 > 100_000)
-    {
-        return false;
-    }
-    let mut references = Vec::new();
-    let mut expected_start = None;
-    let mut last_duration = 0;
-    for (start, duration, count) in runs {
-        if duration == 0 || duration >= 1 << 32 || duration == last_duration {
-            return false;
-        }
-        last_duration = duration;
-        if expected_start.map_or(false, |expected| expected != start) {
-            return false;
-        }
-        for index in 0..count {
-            references.push((start + index * duration, start + (index + 1) * duration));
-        }
-        expected_start = Some(start + count * duration);
-    }
-    if expected_start.map_or(false, |end| end != wide[NEXT_TICK]) {
-        return false;
-    }
-    references.iter().all(|reference| {
-        let starts_past = literal
-            .period_end()
-            .map_or(false, |end| literal.place(reference.0) >= end);
-        reference.1 <= most_tick && !starts_past && !literal.spent(*reference, wide[GREATEST_CLOCK])
+    let starts_past = |start: i128| match literal.period_end() {
+        Some(end) => literal.place(start) >= end,
+        None => false,
+    };
+    runs.iter().all(|run| {
+        let starts = (0..run[2]).map(|index| run[0] + index * run[1]);
+        starts.map(|start| (start, start + run[1])).all(|one| {
+            one.1 <= MOST_TICK && !starts_past(one.0) && !literal.spent(one, record[GREATEST_CLOCK])
+        })
     })
 }
 
@@ -330,34 +333,34 @@ fn small_enough(record: &[u64]) -> bool {
     millis_small && next_tick_millis < 100_000
 }
 
+/// The memory with one word or two changed.
+fn damaged(generator: &mut Generator, lent: &Lent) -> Lent {
+    let mut damaged = lent.clone();
+    for _ in 0..generator.between(1, 2) {
+        let at = generator.below((11 + damaged.table.len()) as u64) as usize;
+        let word = match at {
+            0..=10 => &mut damaged.record[at],
+            _ => &mut damaged.table[at - 11],
+        };
+        *word = damaged_word(generator, *word);
+    }
+    damaged
+}
+
 #[test]
 fn damaged_words_against_enumeration() {
-    let mut generator = Generator::new(1);
     let (mut agreeing, mut disagreeing) = (0, 0);
-    for _ in 0..1_500 {
-        let head = random_head(&mut generator);
-        let lent = random_state(&mut generator, head);
-        assert!(agrees(&lent) && agrees_literally(&lent.record, &lent.table));
+    for (mut generator, _, lent) in random_states(950_000, 1_500) {
+        assert!(agrees(&lent) && agrees_literally(&lent));
         for _ in 0..6 {
-            let mut damaged = lent.clone();
-            for _ in 0..generator.between(1, 2) {
-                let at = generator.below((11 + damaged.table.len()) as u64) as usize;
-                let word = match at {
-                    0..=10 => &mut damaged.record[at],
-                    _ => &mut damaged.table[at - 11],
-                };
-                *word = damaged_word(&mut generator, *word);
-            }
+            let damaged = damaged(&mut generator, &lent);
             if !small_enough(&damaged.record) {
                 continue;
             }
-            let expected = agrees_literally(&damaged.record, &damaged.table);
+            let expected = agrees_literally(&damaged);
             assert_eq!(agrees(&damaged), expected, "{:?}", damaged);
-            if expected {
-                agreeing += 1;
-            } else {
-                disagreeing += 1;
-            }
+            agreeing += usize::from(expected);
+            disagreeing += usize::from(!expected);
         }
     }
     assert!(agreeing > 500 && disagreeing > 500);

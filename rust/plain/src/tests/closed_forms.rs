@@ -1,7 +1,9 @@
 //! Closed forms of the library against enumeration and search, on small cases.
 
+use std::iter;
+
 use super::literal::{Literal, Ticks};
-use super::sequences::{random_head, tick_base};
+use super::sequences::{random_head, random_states, tick_base};
 use super::support::*;
 use crate::reference::{runs_of, Reference, Run};
 use crate::timeline::Timeline;
@@ -23,48 +25,83 @@ fn ticks_of(reference: Reference) -> Ticks {
     )
 }
 
-fn millis(head: &Head, clock: u64) -> Grains {
-    head.timescale.grains_of_millis(i128::from(clock))
+/// A head, as the library and as the definitions have it, a run near its period, and a clock.
+struct Case {
+    fields: HeadFields,
+    head: Head,
+    literal: Literal,
+    run: Run,
+    clock: u64,
 }
 
-/// A reference near the period of a head, and the head both ways.
-fn random_case(generator: &mut Generator) -> (Head, Literal, HeadFields, Run) {
+fn cases(seed: u64, many: usize) -> impl Iterator<Item = Case> {
+    let mut generator = Generator::new(seed);
+    iter::repeat_with(move || random_case(&mut generator)).take(many)
+}
+
+fn random_case(generator: &mut Generator) -> Case {
     let fields = random_head(generator);
-    let head = fields.judge().expect("a head within its limits");
-    let run = Run {
-        start: Tick::new(tick_base(fields) + generator.below(60)).expect("within the limit"),
-        duration: RefDuration::new(generator.between(1, 30)).expect("not 0"),
-        count: generator.between(1, 8),
-    };
-    (head, Literal::of(fields), fields, run)
+    Case {
+        fields,
+        head: fields.judge().expect("a head within its limits"),
+        literal: Literal::of(fields),
+        run: Run {
+            start: Tick::new(tick_base(fields) + generator.below(60)).expect("within the limit"),
+            duration: RefDuration::new(generator.between(1, 30)).expect("not 0"),
+            count: generator.between(1, 8),
+        },
+        clock: generator.below(1_500),
+    }
+}
+
+impl Case {
+    /// The first reference of the run.
+    fn one(&self) -> Reference {
+        self.run.reference(0)
+    }
+
+    /// What the library says of a reference at the clock.
+    fn spent(&self, one: Reference) -> bool {
+        self.head.spent(one, grains(&self.head, self.clock))
+    }
+
+    /// What the definitions say of it.
+    fn spent_literally(&self, one: Reference) -> bool {
+        self.literal.spent(ticks_of(one), i128::from(self.clock))
+    }
+
+    /// True where the reference of an index starts at or after the period end.
+    fn starts_past(&self, index: u64) -> bool {
+        let start = self.run.start_of(index);
+        self.head.past_period(self.head.place(start))
+    }
+}
+
+/// A clock in grains.
+fn grains(head: &Head, clock: u64) -> Grains {
+    head.timescale.grains_of_millis(i128::from(clock))
 }
 
 #[test]
 fn needed_by_the_paper() {
-    let mut generator = Generator::new(10);
-    for _ in 0..4_000 {
-        let (head, literal, _, run) = random_case(&mut generator);
-        let one = run.reference(0);
-        let clock = generator.below(1_500);
-        assert_eq!(
-            head.needed(one, millis(&head, clock)),
-            literal.needed(ticks_of(one), i128::from(clock))
-        );
+    let mut needed = 0;
+    for case in cases(10, 4_000) {
+        let found = case.head.needed(case.one(), grains(&case.head, case.clock));
+        let clock = i128::from(case.clock);
+        assert_eq!(found, case.literal.needed(ticks_of(case.one()), clock));
+        needed += usize::from(found);
     }
+    assert!(needed > 400 && needed < 3_600, "{}", needed);
 }
 
 #[test]
 fn spent_against_a_search_through_the_milliseconds() {
-    let mut generator = Generator::new(11);
     let (mut spent, mut past_period) = (0, 0);
-    for _ in 0..4_000 {
-        let (head, literal, _, run) = random_case(&mut generator);
-        let one = run.reference(0);
-        let clock = generator.below(1_500);
-        let found = head.spent(one, millis(&head, clock));
-        assert_eq!(found, literal.spent(ticks_of(one), i128::from(clock)));
+    for case in cases(11, 4_000) {
+        let found = case.spent(case.one());
+        assert_eq!(found, case.spent_literally(case.one()));
         spent += usize::from(found);
-        past_period += usize::from(head.past_period(head.place(one.start.wide())));
+        past_period += usize::from(case.starts_past(0));
     }
     assert!(spent > 400 && spent < 3_600 && past_period > 100);
 }
@@ -78,94 +115,109 @@ fn up_to(generator: &mut Generator, limit: u64) -> u64 {
     }
 }
 
+/// A head up to the limits, and a clock.
+fn far_head(generator: &mut Generator) -> (HeadFields, u64) {
+    let head = HeadFields {
+        timescale: up_to(generator, 9_999_999) + 1,
+        offset: up_to(generator, Tick::MAX),
+        start: up_to(generator, Millis::MAX),
+        duration: up_to(generator, Millis::MAX),
+        depth: up_to(generator, Millis::MAX),
+        first_number: 0,
+    };
+    (head, up_to(generator, Millis::MAX))
+}
+
+/// A reference that ends near one of the points of the comparison, if that is within the limits.
+fn near_reference(generator: &mut Generator, literal: &Literal, clock: u64) -> Option<Reference> {
+    let near = generator.pick(&[
+        literal.start,
+        literal.start + literal.duration,
+        i128::from(clock) - literal.depth,
+    ]);
+    let end = literal.offset
+        + (near - literal.start) * literal.timescale / 1000
+        + i128::from(generator.below(5))
+        - 2;
+    let duration = up_to(generator, u64::from(u32::MAX - 1)) + 1;
+    let start = u64::try_from(end - i128::from(duration)).ok()?;
+    let within = start <= Tick::MAX - duration;
+    within.then(|| reference(start, duration))
+}
+
+/// The paper's comparison: the earlier of the end and the period end is at or before the later of
+/// period start and c - depth, the second only where depth is given.
+fn compared(literal: &Literal, one: Reference, clock: u64) -> bool {
+    let end = literal.place(ticks_of(one).1);
+    let earlier = literal.period_end().map_or(end, |period| end.min(period));
+    let before = |millis: i128| earlier <= millis * literal.timescale;
+    before(literal.start) || literal.depth > 0 && before(i128::from(clock) - literal.depth)
+}
+
 #[test]
 fn spent_against_the_papers_comparison_up_to_the_limits() {
     let mut generator = Generator::new(18);
     let (mut spent, mut kept) = (0, 0);
     for _ in 0..40_000 {
-        let fields = HeadFields {
-            timescale: up_to(&mut generator, 9_999_999) + 1,
-            offset: up_to(&mut generator, Tick::MAX),
-            start: up_to(&mut generator, Millis::MAX),
-            duration: up_to(&mut generator, Millis::MAX),
-            depth: up_to(&mut generator, Millis::MAX),
-            first_number: 0,
-        };
+        let (fields, clock) = far_head(&mut generator);
         let head = fields.judge().expect("a head within its limits");
         let literal = Literal::of(fields);
-        let clock = up_to(&mut generator, Millis::MAX);
-        // An end near one of the points of the comparison, in ticks.
-        let near = generator.pick(&[
-            literal.start,
-            literal.start + literal.duration,
-            i128::from(clock) - literal.depth,
-        ]);
-        let tick = literal.offset
-            + (near - literal.start) * literal.timescale / 1000
-            + i128::from(generator.below(5))
-            - 2;
-        let duration = up_to(&mut generator, u64::from(u32::MAX - 1)) + 1;
-        let start = match u64::try_from(tick - i128::from(duration)) {
-            Ok(start) if start <= Tick::MAX - duration => start,
-            _ => continue,
-        };
-        let one = reference(start, duration);
-        if head.past_period(head.place(one.start.wide())) {
-            continue;
+        let starts_before_the_end =
+            |one: &Reference| !head.past_period(head.place(one.start.wide()));
+        let one = near_reference(&mut generator, &literal, clock).filter(starts_before_the_end);
+        if let Some(one) = one {
+            let expected = compared(&literal, one, clock);
+            assert_eq!(head.spent(one, grains(&head, clock)), expected);
+            spent += usize::from(expected);
+            kept += usize::from(!expected);
         }
-        let end = literal.place(ticks_of(one).1);
-        let earlier = literal.period_end().map_or(end, |period| end.min(period));
-        let compared = earlier <= literal.start * literal.timescale
-            || literal.depth > 0
-                && earlier <= (i128::from(clock) - literal.depth) * literal.timescale;
-        assert_eq!(head.spent(one, millis(&head, clock)), compared);
-        spent += usize::from(compared);
-        kept += usize::from(!compared);
     }
     assert!(spent > 1_000 && kept > 1_000, "{} {}", spent, kept);
 }
 
 #[test]
 fn spent_only_ever_turns_true() {
-    let mut generator = Generator::new(12);
-    for _ in 0..2_000 {
-        let (head, _, _, run) = random_case(&mut generator);
-        let one = run.reference(0);
-        let clock = generator.below(1_500);
-        if head.spent(one, millis(&head, clock)) {
-            assert!(head.spent(one, millis(&head, clock + generator.below(500))));
+    let mut spent = 0;
+    for case in cases(12, 2_000) {
+        if case.spent(case.one()) {
+            spent += 1;
+            for later in [1, 2, 50, 500] {
+                let clock = grains(&case.head, case.clock + later);
+                assert!(case.head.spent(case.one(), clock));
+            }
         }
     }
+    assert!(spent > 200, "{}", spent);
 }
 
 #[test]
 fn spent_count_against_counting() {
-    let mut generator = Generator::new(13);
     let mut compared = 0;
-    for _ in 0..4_000 {
-        let (head, literal, _, run) = random_case(&mut generator);
-        let starts_past = head.past_period(head.place(run.start_of(run.count - 1)));
-        if starts_past || run.end().limited().is_none() {
+    for case in cases(13, 4_000) {
+        let run = case.run;
+        if case.starts_past(run.count - 1) || run.end().limited().is_none() {
             continue;
         }
         compared += 1;
-        let clock = generator.below(1_500);
-        let counted = (0..run.count)
-            .filter(|index| literal.spent(ticks_of(run.reference(*index)), i128::from(clock)))
-            .count() as u64;
-        assert_eq!(head.spent_count(run, millis(&head, clock)), counted);
+        let references = (0..run.count).map(|index| run.reference(index));
+        let counted = references.filter(|one| case.spent_literally(*one)).count();
+        let found = case.head.spent_count(run, grains(&case.head, case.clock));
+        assert_eq!(found, counted as u64);
     }
     assert!(compared > 1_000);
 }
 
 #[test]
 fn needed_ticks_against_enumeration() {
-    let mut generator = Generator::new(14);
-    for _ in 0..2_000 {
-        let (head, literal, _, _) = random_case(&mut generator);
-        let clock = generator.below(1_500);
+    for Case {
+        head,
+        literal,
+        clock,
+        ..
+    } in cases(14, 2_000)
+    {
         let by_clock = (
-            head.window_at(millis(&head, clock)),
+            head.window_at(grains(&head, clock)),
             literal.window(i128::from(clock)),
         );
         let whole = head.whole_period().zip(literal.whole_period());
@@ -210,13 +262,10 @@ fn rounding_of_grains_to_ticks() {
 
 #[test]
 fn verdicts_against_enumeration() {
-    let mut generator = Generator::new(15);
     let mut kinds = [0; 3];
-    for _ in 0..2_000 {
-        let fields = random_head(&mut generator);
-        let lent = super::sequences::random_state(&mut generator, fields);
-        let literal = Literal::of(fields);
-        let kept = kept_ticks(&lent);
+    for (mut generator, head, lent) in random_states(900_000, 2_000) {
+        let literal = Literal::of(head);
+        let kept = lent.kept();
         let clock = lent.record[GREATEST_CLOCK] + generator.below(700);
         let found = lent.verdict(clock).expect("an accepted verdict");
         let window = literal.window(i128::from(clock));
@@ -234,24 +283,11 @@ fn verdicts_against_enumeration() {
     assert!(kinds.iter().all(|times| *times > 50), "{:?}", kinds);
 }
 
-/// The references that the used runs of a table stand for.
-pub fn kept_ticks(lent: &Lent) -> Vec<Ticks> {
-    let mut kept = Vec::new();
-    for run in lent.table.chunks(3).take(lent.record[RUNS_USED] as usize) {
-        for index in 0..run[2] {
-            let start = i128::from(run[0] + index * run[1]);
-            kept.push((start, start + i128::from(run[1])));
-        }
-    }
-    kept
-}
-
 #[test]
 fn the_count_of_a_negative_r_against_counting_up() {
-    let mut generator = Generator::new(16);
     let mut accepted = 0;
-    for _ in 0..3_000 {
-        let (_, literal, fields, run) = random_case(&mut generator);
+    for case in cases(16, 3_000) {
+        let Case { literal, run, .. } = case;
         let end = match literal.period_end() {
             Some(end) if literal.place(i128::from(run.start.get())) < end => end,
             _ => continue,
@@ -263,7 +299,7 @@ fn the_count_of_a_negative_r_against_counting_up() {
             .expect("a count that reaches the end");
         let fields = HeadFields {
             first_number: 0,
-            ..fields
+            ..case.fields
         };
         let mut timeline =
             Timeline::open(fields, run.start.get(), 10).expect("an accepted opening");

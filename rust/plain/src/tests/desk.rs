@@ -3,7 +3,6 @@
 use super::support::*;
 use crate::desk::answer;
 use crate::units::Millis;
-use crate::window::HeadFields;
 
 fn ask(clock: u64, text: &str) -> String {
     answer((clock_line(clock) + text).as_bytes())
@@ -96,34 +95,9 @@ fn the_verdict_is_judged_after_the_file() {
 
 #[test]
 fn each_refusal_of_a_file() {
-    let short = HeadFields {
-        duration: 1_000,
-        ..OPEN_ENDED
-    };
-    let numbered = HeadFields {
-        first_number: u32::MAX,
-        ..short
-    };
-    let bad_head = HeadFields {
-        timescale: 0,
-        ..short
-    };
-    let top = (1 << 52) - 1;
-    for (text, line) in [
-        (file(bad_head, &[(0, 1, 0)]), "refused 1 line 1\n"),
-        (file(short, &[(0, 0, 0)]), "refused 3 line 2\n"),
-        (file(short, &[(0, 1, 0), (2, 1, 0)]), "refused 4 line 3\n"),
-        (file(short, &[(0, 1, 0), (0, 1, 0)]), "refused 5 line 3\n"),
-        (file(short, &[(top, 1, 0)]), "refused 6 line 2\n"),
-        (file(numbered, &[(0, 1, 0)]), "refused 7 line 2\n"),
-        (file(short, &[(1_000, 1, 0)]), "refused 8 line 2\n"),
-        (
-            file(short, &[(0, 1, -1), (ABSENT, 1, 0)]),
-            "refused 17 line 3\n",
-        ),
-        (file(OPEN_ENDED, &[(0, 1, -1)]), "refused 18 line 2\n"),
-    ] {
-        assert_eq!(ask(0, &text), line);
+    for (text, (number, line)) in refused_files() {
+        let answer = format!("refused {} line {}\n", number, line);
+        assert_eq!(ask(0, &text), answer);
     }
 }
 

@@ -24,9 +24,8 @@ fn a_reference_is_not_judged_by_its_start() {
 fn a_reference_over_the_period_end_is_spent_with_the_period() {
     // The period ends at 1,000 ms, the last reference at 1,500 ms; the window is 100 ms deep.
     let head = HeadFields {
-        duration: 1_000,
         depth: 100,
-        ..OPEN_ENDED
+        ..SHORT
     };
     let mut lent = Lent::opened(head, 0, 30);
     assert_eq!(lent.append(0, 750, 2), 0);

@@ -5,12 +5,6 @@ use super::support::*;
 use crate::timeline::Timeline;
 use crate::window::HeadFields;
 
-/// A period of 1,000 ms at one tick a millisecond.
-const SHORT: HeadFields = HeadFields {
-    duration: 1_000,
-    ..OPEN_ENDED
-};
-
 fn good() -> String {
     file(SHORT, &[(0, 10, 4), (ABSENT, 20, 0)])
 }
@@ -293,6 +287,7 @@ fn random_files_are_openings_plus_appends() {
 
 #[test]
 fn a_negative_r_is_an_append_of_its_count() {
+    let (mut accepted, mut refused) = (0, 0);
     for seed in 0..500 {
         let mut generator = Generator::new(700_000 + seed);
         let head = random_head(&mut generator);
@@ -303,14 +298,19 @@ fn a_negative_r_is_an_append_of_its_count() {
         let answer = timeline.append_to_period_end(t, d);
         match (found, answer) {
             (Ok(lent), Ok(())) => {
+                accepted += 1;
                 let count = lent.record[ACCEPTED] as i32;
                 let same = read_into(9, &file(head, &[(t, d, count - 1)]));
                 assert_eq!(same, Ok(lent));
             }
-            (Err((number, 2)), Err(refusal)) => assert_eq!(number, refusal.number()),
+            (Err((number, 2)), Err(refusal)) => {
+                refused += 1;
+                assert_eq!(number, refusal.number());
+            }
             (found, answer) => panic!("{:?} {:?}", found, answer),
         }
     }
+    assert!(accepted > 100 && refused > 100, "{} {}", accepted, refused);
 }
 
 /// Changes, takes out or puts in one byte at a place from the first to the last, or the end.

@@ -172,11 +172,7 @@ fn capacity_is_the_words_divided_by_3() {
 #[test]
 fn a_full_table_takes_what_is_spent_at_once() {
     // The period is over for a window of 10 ms at clock 2,000: all is spent at once.
-    let head = HeadFields {
-        duration: 1_000,
-        depth: 10,
-        ..OPEN_ENDED
-    };
+    let head = HeadFields { depth: 10, ..SHORT };
     let mut lent = Lent::opened(head, 0, 0);
     assert_eq!(lent.join(7, 1), 9);
     assert_eq!(lent.trim(2_000), 0);

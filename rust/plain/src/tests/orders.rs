@@ -5,21 +5,10 @@ use super::support::*;
 use crate::units::{Millis, Tick};
 use crate::window::HeadFields;
 
-/// A period of 1,000 ms at one tick a millisecond.
-const SHORT: HeadFields = HeadFields {
-    duration: 1_000,
-    ..OPEN_ENDED
-};
-
-/// The same, with no number left for any reference.
+/// A period of 1,000 ms, and no number left for any reference.
 const SHORT_NUMBERED: HeadFields = HeadFields {
-    first_number: u32::MAX,
-    ..SHORT
-};
-
-const NO_END_NUMBERED: HeadFields = HeadFields {
-    first_number: u32::MAX,
-    ..OPEN_ENDED
+    duration: 1_000,
+    ..NUMBERED
 };
 
 #[test]
@@ -112,10 +101,7 @@ fn a_line_is_16_before_17() {
 #[test]
 fn a_line_is_17_before_its_fields() {
     let head = head_line(SHORT);
-    let bad_head = head_line(HeadFields {
-        timescale: 0,
-        ..SHORT
-    });
+    let bad_head = head_line(NO_TIMESCALE);
     assert_eq!(refused(&format!("{}{}", head, bad_head)), (17, 2));
     assert_eq!(refused(&s_line(Tick::MAX + 1, 0, 0)), (17, 1));
     let closed = head + &s_line(0, 1, -1);
@@ -173,7 +159,7 @@ fn a_negative_r_is_4_or_5_before_8() {
 
 #[test]
 fn a_negative_r_is_18_before_6_7_and_9() {
-    let text = file(NO_END_NUMBERED, &[(Tick::MAX, u32::MAX, -1)]);
+    let text = file(NUMBERED, &[(Tick::MAX, u32::MAX, -1)]);
     assert_eq!(read_into(0, &text), Err((18, 2)));
 }
 

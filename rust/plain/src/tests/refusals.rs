@@ -3,14 +3,8 @@
 use super::by_hand::case_b;
 use super::support::*;
 use crate::face;
-use crate::units::{Millis, Tick};
+use crate::units::{Millis, Tick, Timescale};
 use crate::window::HeadFields;
-
-/// A period of 1,000 ms at one tick a millisecond.
-const SHORT: HeadFields = HeadFields {
-    duration: 1_000,
-    ..OPEN_ENDED
-};
 
 /// Memory whose record and table disagree.
 fn damaged() -> Lent {
@@ -29,65 +23,28 @@ fn appends_refuse(append: impl Fn(&mut Lent, u64, u32, u32) -> u32) {
     assert_eq!(append(&mut lent, 19_999, 1, 1), 5);
     let mut high = Lent::opened(OPEN_ENDED, Tick::MAX, 30);
     assert_eq!(append(&mut high, Tick::MAX, 1, 1), 6);
-    let numbered = HeadFields {
-        first_number: u32::MAX,
-        ..OPEN_ENDED
-    };
-    assert_eq!(append(&mut Lent::opened(numbered, 0, 30), 0, 1, 1), 7);
+    assert_eq!(append(&mut Lent::opened(NUMBERED, 0, 30), 0, 1, 1), 7);
     assert_eq!(append(&mut Lent::opened(SHORT, 1_000, 30), 1_000, 1, 1), 8);
     assert_eq!(append(&mut Lent::opened(SHORT, 0, 2), 0, 1, 1), 9);
 }
 
 #[test]
 fn open() {
-    let over = [
-        (
-            HeadFields {
-                timescale: 0,
-                ..OPEN_ENDED
-            },
-            0,
-        ),
-        (
-            HeadFields {
-                timescale: 10_000_001,
-                ..OPEN_ENDED
-            },
-            0,
-        ),
-        (
-            HeadFields {
-                offset: Tick::MAX + 1,
-                ..OPEN_ENDED
-            },
-            0,
-        ),
-        (
-            HeadFields {
-                start: Millis::MAX + 1,
-                ..OPEN_ENDED
-            },
-            0,
-        ),
-        (
-            HeadFields {
-                duration: Millis::MAX + 1,
-                ..OPEN_ENDED
-            },
-            0,
-        ),
-        (
-            HeadFields {
-                depth: Millis::MAX + 1,
-                ..OPEN_ENDED
-            },
-            0,
-        ),
-        (OPEN_ENDED, Tick::MAX + 1),
-        (OPEN_ENDED, u64::MAX),
+    let over: [fn(&mut HeadFields); 6] = [
+        |head| head.timescale = 0,
+        |head| head.timescale = u64::from(Timescale::MAX) + 1,
+        |head| head.offset = Tick::MAX + 1,
+        |head| head.start = Millis::MAX + 1,
+        |head| head.duration = Millis::MAX + 1,
+        |head| head.depth = Millis::MAX + 1,
     ];
-    for (head, first_tick) in over {
-        assert_eq!(Lent::anything(30).open(head, first_tick), 1);
+    for change in over {
+        let mut head = OPEN_ENDED;
+        change(&mut head);
+        assert_eq!(Lent::anything(30).open(head, 0), 1);
+    }
+    for first_tick in [Tick::MAX + 1, u64::MAX] {
+        assert_eq!(Lent::anything(30).open(OPEN_ENDED, first_tick), 1);
     }
 }
 
@@ -197,27 +154,11 @@ fn write() {
 
 #[test]
 fn read() {
-    let numbered = HeadFields {
-        first_number: u32::MAX,
-        ..OPEN_ENDED
-    };
-    let bad_head = HeadFields {
-        timescale: 0,
-        ..OPEN_ENDED
-    };
-    assert_eq!(refused(&file(bad_head, &[(0, 1, 0)])), (1, 1));
-    assert_eq!(refused(&file(SHORT, &[(Tick::MAX + 1, 1, 0)])), (1, 2));
-    assert_eq!(refused(&file(SHORT, &[(0, 0, 0)])), (3, 2));
-    assert_eq!(refused(&file(SHORT, &[(0, 1, 0), (2, 1, 0)])), (4, 3));
-    assert_eq!(refused(&file(SHORT, &[(0, 1, 0), (0, 1, 0)])), (5, 3));
-    assert_eq!(refused(&file(OPEN_ENDED, &[(Tick::MAX, 1, 0)])), (6, 2));
-    assert_eq!(refused(&file(numbered, &[(0, 1, 0)])), (7, 2));
-    assert_eq!(refused(&file(SHORT, &[(1_000, 1, 0)])), (8, 2));
+    for (text, refusal) in refused_files() {
+        assert_eq!(refused(&text), refusal);
+    }
     let eleven: Vec<_> = (1..=11).map(|d| (ABSENT, d, 0)).collect();
     assert_eq!(refused(&file(SHORT, &eleven)), (9, 12));
-    assert_eq!(refused(""), (16, 1));
-    assert_eq!(refused(&end_line(0)), (17, 1));
-    assert_eq!(refused(&file(OPEN_ENDED, &[(0, 1, -1)])), (18, 2));
 }
 
 #[test]

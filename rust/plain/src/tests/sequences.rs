@@ -43,6 +43,19 @@ pub fn random_state(generator: &mut Generator, head: HeadFields) -> Lent {
     lent
 }
 
+/// Random states, each with its head and with the generator that made it, for what comes next.
+pub fn random_states(
+    first_seed: u64,
+    many: u64,
+) -> impl Iterator<Item = (Generator, HeadFields, Lent)> {
+    (first_seed..first_seed + many).map(|seed| {
+        let mut generator = Generator::new(seed);
+        let head = random_head(&mut generator);
+        let lent = random_state(&mut generator, head);
+        (generator, head, lent)
+    })
+}
+
 /// The definitions alone.
 #[derive(Clone)]
 struct Model {
@@ -269,6 +282,29 @@ fn random_clock(generator: &mut Generator) -> u64 {
 
 /// One random call on both, and both answers compared.
 fn call(generator: &mut Generator, lent: &mut Lent, model: &mut Model) {
+    match generator.below(12) {
+        0..=5 => append(generator, lent, model),
+        6 => {
+            let clock = random_clock(generator);
+            assert_eq!(lent.trim(clock), model.trim(clock));
+        }
+        7 => {
+            let clock = random_clock(generator);
+            assert_eq!(lent.verdict(clock), model.verdict(clock));
+        }
+        8 => assert_eq!(lent.verdict_whole(), model.verdict_whole()),
+        9 => availability(generator, lent, model),
+        10 => {
+            let a = lent.record[NEXT_TICK].saturating_sub(generator.below(80));
+            let b = a + generator.below(60);
+            assert_eq!(lent.touching(a, b), model.touching(a, b));
+        }
+        _ => assert_eq!(lent.write(), model.write()),
+    }
+}
+
+/// An append to both, by full tick or by stamp: most join.
+fn append(generator: &mut Generator, lent: &mut Lent, model: &mut Model) {
     let next_tick = lent.record[NEXT_TICK];
     let start = match generator.below(12) {
         0 => next_tick + 1,
@@ -280,37 +316,26 @@ fn call(generator: &mut Generator, lent: &mut Lent, model: &mut Model) {
     };
     let duration = generator.pick(&[0, 1, 1, 2, 5, 5, 5, 9, 12, 40]);
     let count = generator.pick(&[0, 1, 1, 1, 2, 3, 4]);
-    let clock = random_clock(generator);
+    if generator.one_in(3) {
+        let stamp = start as u32;
+        let expected = model.append_stamp(stamp, duration, count);
+        assert_eq!(lent.append_stamp(stamp, duration, count), expected);
+    } else {
+        let expected = model.append(start, duration, count);
+        assert_eq!(lent.append(start, duration, count), expected);
+    }
+}
+
+/// The availability of a number, most often one that was accepted, and whether it is available.
+fn availability(generator: &mut Generator, lent: &Lent, model: &Model) {
     let number = match generator.below(4) {
         0 => generator.next() as u32,
         _ => lent.record[FIRST_NUMBER] as u32 + generator.below(12) as u32,
     };
-    match generator.below(12) {
-        0..=3 => assert_eq!(
-            lent.append(start, duration, count),
-            model.append(start, duration, count)
-        ),
-        4 | 5 => assert_eq!(
-            lent.append_stamp(start as u32, duration, count),
-            model.append_stamp(start as u32, duration, count)
-        ),
-        6 => assert_eq!(lent.trim(clock), model.trim(clock)),
-        7 => assert_eq!(lent.verdict(clock), model.verdict(clock)),
-        8 => assert_eq!(lent.verdict_whole(), model.verdict_whole()),
-        9 => {
-            assert_eq!(lent.availability(number), model.availability(number));
-            assert_eq!(
-                lent.available_at(number, clock),
-                model.available_at(number, clock)
-            );
-        }
-        10 => {
-            let a = next_tick.saturating_sub(generator.below(80));
-            let b = a + generator.below(60);
-            assert_eq!(lent.touching(a, b), model.touching(a, b));
-        }
-        _ => assert_eq!(lent.write(), model.write()),
-    }
+    assert_eq!(lent.availability(number), model.availability(number));
+    let clock = random_clock(generator);
+    let expected = model.available_at(number, clock);
+    assert_eq!(lent.available_at(number, clock), expected);
 }
 
 #[test]
@@ -331,16 +356,13 @@ fn random_sequences_against_the_definitions() {
 
 #[test]
 fn after_each_trim_what_is_kept_is_needed_and_what_is_dropped_is_not() {
-    for seed in 0..400 {
-        let mut generator = Generator::new(100_000 + seed);
-        let head = random_head(&mut generator);
+    for (mut generator, head, mut lent) in random_states(100_000, 400) {
         let literal = Literal::of(head);
-        let mut lent = random_state(&mut generator, head);
         for _ in 0..5 {
-            let before = super::closed_forms::kept_ticks(&lent);
+            let before = lent.kept();
             assert_eq!(lent.trim(generator.below(1_100)), 0);
             let clock = i128::from(lent.record[GREATEST_CLOCK]);
-            let after = super::closed_forms::kept_ticks(&lent);
+            let after = lent.kept();
             for reference in before {
                 assert_eq!(after.contains(&reference), !literal.spent(reference, clock));
             }
@@ -350,10 +372,7 @@ fn after_each_trim_what_is_kept_is_needed_and_what_is_dropped_is_not() {
 
 #[test]
 fn a_trim_never_changes_a_later_verdict() {
-    for seed in 0..400 {
-        let mut generator = Generator::new(200_000 + seed);
-        let head = random_head(&mut generator);
-        let untrimmed = random_state(&mut generator, head);
+    for (mut generator, _, untrimmed) in random_states(200_000, 400) {
         let mut trimmed = untrimmed.clone();
         assert_eq!(trimmed.trim(generator.below(1_100)), 0);
         for _ in 0..10 {
@@ -365,49 +384,45 @@ fn a_trim_never_changes_a_later_verdict() {
 
 #[test]
 fn how_references_are_split_into_appends_makes_no_difference() {
-    for seed in 0..400 {
-        let mut generator = Generator::new(300_000 + seed);
-        let head = random_head(&mut generator);
-        let mut whole = random_state(&mut generator, head);
+    let mut accepted = 0;
+    for (mut generator, _, mut whole) in random_states(300_000, 400) {
         let mut split = whole.clone();
         let duration = generator.between(1, 12) as u32;
         let count = generator.between(2, 6) as u32;
-        if whole.join(duration, count) != 0 {
-            continue;
+        if whole.join(duration, count) == 0 {
+            accepted += 1;
+            for _ in 0..count {
+                assert_eq!(split.join(duration, 1), 0);
+            }
+            assert_eq!(split, whole);
         }
-        for _ in 0..count {
-            assert_eq!(split.join(duration, 1), 0);
-        }
-        assert_eq!(split, whole);
     }
+    assert!(accepted > 100, "{}", accepted);
 }
 
 #[test]
 fn trims_and_appends_may_change_places() {
     // The same accepted appends and the same greatest clock leave the same memory, whether the
     // trim stands before or behind the append.
-    for seed in 0..400 {
-        let mut generator = Generator::new(400_000 + seed);
-        let head = random_head(&mut generator);
-        let mut trim_first = random_state(&mut generator, head);
+    let mut accepted = 0;
+    for (mut generator, _, mut trim_first) in random_states(400_000, 400) {
         let mut trim_last = trim_first.clone();
         let clock = generator.below(1_100);
         let duration = generator.between(1, 12) as u32;
         assert_eq!(trim_first.trim(clock), 0);
-        if trim_first.join(duration, 3) != 0 || trim_last.join(duration, 3) != 0 {
-            continue;
+        if trim_first.join(duration, 3) == 0 && trim_last.join(duration, 3) == 0 {
+            accepted += 1;
+            assert_eq!(trim_last.trim(clock), 0);
+            assert_eq!(trim_first, trim_last);
         }
-        assert_eq!(trim_last.trim(clock), 0);
-        assert_eq!(trim_first, trim_last);
     }
+    assert!(accepted > 100, "{}", accepted);
 }
 
 #[test]
 fn written_and_read_back() {
-    for seed in 0..400 {
-        let mut generator = Generator::new(500_000 + seed);
-        let head = random_head(&mut generator);
-        let lent = random_state(&mut generator, head);
+    let mut written = 0;
+    for (_, _, lent) in random_states(500_000, 400) {
         let bytes = match lent.write() {
             Ok(bytes) => bytes,
             Err(refusal) => {
@@ -415,6 +430,7 @@ fn written_and_read_back() {
                 continue;
             }
         };
+        written += 1;
         let mut again = Lent::anything(lent.table.len());
         assert_eq!(again.read(&bytes), Ok(()));
         assert_eq!(again.table, lent.table);
@@ -426,4 +442,5 @@ fn written_and_read_back() {
         assert_eq!(again.record, expected);
         assert_eq!(again.write(), Ok(bytes));
     }
+    assert!(written > 100, "{}", written);
 }

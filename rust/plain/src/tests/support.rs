@@ -1,6 +1,8 @@
 //! What the tests share: a small seeded generator, lent memory, and the lines of a file.
 
+use super::literal::Ticks;
 use crate::face;
+use crate::units::Tick;
 use crate::window::HeadFields;
 
 /// A small generator of evenly spread 64-bit numbers (splitmix), the same for the same seed.
@@ -151,6 +153,17 @@ impl Lent {
             .map_err(|refusal| refusal.number())
     }
 
+    /// The references that the used runs stand for.
+    pub fn kept(&self) -> Vec<Ticks> {
+        let used = self.record[RUNS_USED] as usize;
+        let runs = self.table.chunks(3).take(used);
+        runs.flat_map(|run| {
+            let [start, duration, count] = [run[0], run[1], run[2]].map(i128::from);
+            (0..count).map(move |index| (start + index * duration, start + (index + 1) * duration))
+        })
+        .collect()
+    }
+
     /// Writes into an output of so many bytes.
     pub fn write_into(&self, output_bytes: usize) -> Result<Vec<u8>, u32> {
         let mut bytes = vec![b'#'; output_bytes];
@@ -241,32 +254,24 @@ pub fn refused(text: &str) -> (u32, u64) {
     read_into(30, text).expect_err("a file that is refused")
 }
 
-pub const CASE_A: HeadFields = HeadFields {
-    timescale: 10,
-    offset: 100,
-    start: 30_000,
-    duration: 10_000,
-    depth: 0,
-    first_number: 0,
-};
-
-pub const CASE_B: HeadFields = HeadFields {
-    timescale: 1000,
-    offset: 0,
-    start: 0,
-    duration: 0,
-    depth: 10_000,
-    first_number: 1,
-};
-
-pub const CASE_D: HeadFields = HeadFields {
-    timescale: 3,
-    offset: 0,
-    start: 0,
-    duration: 500,
-    depth: 0,
-    first_number: 0,
-};
+/// Files that the program's table refuses and a table of 30 words too, each with its refusal and
+/// its line.
+pub fn refused_files() -> Vec<(String, (u32, u64))> {
+    vec![
+        (file(NO_TIMESCALE, &[(0, 1, 0)]), (1, 1)),
+        (file(SHORT, &[(Tick::MAX + 1, 1, 0)]), (1, 2)),
+        (file(SHORT, &[(0, 0, 0)]), (3, 2)),
+        (file(SHORT, &[(0, 1, 0), (2, 1, 0)]), (4, 3)),
+        (file(SHORT, &[(0, 1, 0), (0, 1, 0)]), (5, 3)),
+        (file(OPEN_ENDED, &[(Tick::MAX, 1, 0)]), (6, 2)),
+        (file(NUMBERED, &[(0, 1, 0)]), (7, 2)),
+        (file(SHORT, &[(1_000, 1, 0)]), (8, 2)),
+        (String::new(), (16, 1)),
+        (end_line(0), (17, 1)),
+        (file(SHORT, &[(0, 1, -1), (ABSENT, 1, 0)]), (17, 3)),
+        (file(OPEN_ENDED, &[(0, 1, -1)]), (18, 2)),
+    ]
+}
 
 /// A head with neither an end nor a depth, one tick a millisecond.
 pub const OPEN_ENDED: HeadFields = HeadFields {
@@ -276,4 +281,42 @@ pub const OPEN_ENDED: HeadFields = HeadFields {
     duration: 0,
     depth: 0,
     first_number: 0,
+};
+
+/// The same with a period of 1,000 ms.
+pub const SHORT: HeadFields = HeadFields {
+    duration: 1_000,
+    ..OPEN_ENDED
+};
+
+/// A head with no number left for any reference.
+pub const NUMBERED: HeadFields = HeadFields {
+    first_number: u32::MAX,
+    ..OPEN_ENDED
+};
+
+/// A head that is refused.
+pub const NO_TIMESCALE: HeadFields = HeadFields {
+    timescale: 0,
+    ..OPEN_ENDED
+};
+
+pub const CASE_A: HeadFields = HeadFields {
+    timescale: 10,
+    offset: 100,
+    start: 30_000,
+    duration: 10_000,
+    ..OPEN_ENDED
+};
+
+pub const CASE_B: HeadFields = HeadFields {
+    depth: 10_000,
+    first_number: 1,
+    ..OPEN_ENDED
+};
+
+pub const CASE_D: HeadFields = HeadFields {
+    timescale: 3,
+    duration: 500,
+    ..OPEN_ENDED
 };
