@@ -1,6 +1,6 @@
 -- The calls that change give the lowest number whose condition holds: their tests, one after the other, are the rows.
 use mathlib.Core.Path.{_≡_, refl, sym, ap, ap₂, _∙_}
-use mathlib.Core.Bool.{Bool, true, false, cond, not, _&&_, _||_, and-false, true≢false}
+use mathlib.Core.Bool.{Bool, true, false, cond, not, _&&_, _||_, and-false}
 use mathlib.Core.List.{List, [], _∷_}
 use Prim.Native.Nat.{ℕ, _+_, _*_, _^_, _≤_}
 use native.Mathlib.Omega.{arith}
@@ -29,6 +29,7 @@ use Rattle.keeping.proofs.Stored.{room-exactly}
 use Rattle.timeline.specs.Opening.{openOutcome, openAnswer}
 use Rattle.timeline.specs.Appending.{joining, appendOutcome, appendAnswer}
 use Rattle.timeline.specs.Trimming.{trimOutcome, trimAnswer}
+use Rattle.timeline.proofs.Kept.{or-none}
 use Rattle.laws.specs.Refusals.{lowest, some, overLimit, noRunLeft, appendRows}
 use Rattle.laws.proofs.Rows.{Fails, over, none, either, not-every, told}
 
@@ -125,10 +126,6 @@ module _ (rec : Record) (ws : List ℕ) (d n : ℕ) where
         ends = leb-true (rec .next .0 + d * n) largestTick e;
         counts = c;
       }
-    where
-      or-none : (x y : Bool) → (x || y) ≡ false → (x ≡ false) × (y ≡ false)
-      or-none false y k = (refl, k)
-      or-none true y k = (k, absurd (true≢false k))
 
   -- of two last rows that are alike wherever all before them pass, either will do
   lastly : (a z u v e c b x y : Bool) → (a ≡ true → z ≡ false → e ≡ true → c ≡ true → x ≡ y) →

@@ -4,7 +4,7 @@ use mathlib.Core.Bool.{Bool, true, false, cond, not}
 use mathlib.Core.List.{List, _++_}
 use Prim.Native.Nat.{ℕ, zero, suc, _+_, _*_, _≤_, _<_}
 use native.Mathlib.Omega.{arith}
-use borrow.Author.Tests.{eqb-false, ne-eqb, leb-true, le-leb, le-ltb}
+use borrow.Author.Tests.{ne-eqb, leb-true, le-leb, le-ltb}
 use lib.Dec.{eqb, leb}
 use lib.ListN.{length, getD, take, drop}
 use lib.Seq.{take-append-seam}
@@ -35,7 +35,7 @@ use Rattle.file.specs.Judging.{firstNegative, reachOutcome, appendedBy, reaches
 use Rattle.file.specs.Writing.{keptHead, fileFor, writeAnswer, outputBy}
 use Rattle.file.proofs.Counts as count
 use Rattle.file.proofs.Stable as stable
-use Rattle.laws.proofs.Verdicts.{some-of}
+use Rattle.answers.proofs.Counting.{some-of}
 use Rattle.laws.specs.Demand2.{ExactlyWhen, firstKept, Writes, ReadsBack, output, SameKept, Least}
 
 -- ---- what was written
@@ -58,7 +58,7 @@ module _ (rec : Record) (ws : List ℕ) (room n : ℕ) where
       go true e false f true g q =
           let long : length (fileFor rec ws) ≡ n = ap lengthOf q in
           let fits = leb-true (length (fileFor rec ws)) room g in
-          record { agreed = e; some = some-of (rec .used) (eqb-false (rec .used) 0 f); long = sym long; fits = omega arith }
+          record { agreed = e; some = some-of (rec .used) f; long = sym long; fits = omega arith }
       go true e false f false g q = no ShortOutput q
       go true e true f z g q = no NothingKept q
       go false e y f z g q = no Disagreement q

@@ -4,7 +4,7 @@ use mathlib.Core.Bool.{Bool, true, false, cond, _&&_, and-eq-true-iff}
 use mathlib.Core.List.{List, [], _∷_, _++_}
 use Prim.Native.Nat.{ℕ, suc, _+_, _*_, _≤_, _<_}
 use native.Mathlib.Omega.{arith}
-use borrow.Author.Tests.{eq-eqb, ne-eqb, eqb-false, le-leb}
+use borrow.Author.Tests.{eq-eqb, ne-eqb, le-leb}
 use lib.Dec.{eqb}
 use lib.IntN.{pos}
 use lib.ListN.{length}
@@ -25,8 +25,8 @@ use Rattle.answers.specs.declared.Numbered.the-variants.{Kept, Missing}
 use Rattle.answers.specs.Available as available
 use Rattle.answers.specs.Available.{keptNumber, availabilityOf, numberAvailability, availabilityIn, numberAvailable, availableIn}
 use Rattle.answers.proofs.Numbering as numbering
+use Rattle.answers.proofs.Counting.{some-of}
 use Rattle.laws.specs.Demand2.{ExactlyWhen, firstKept, numbered, grain, startsAt, endsAt, Offered}
-use Rattle.laws.proofs.Verdicts.{some-of}
 
 -- the reference behind `xs`
 number-at : (m : ℕ) (xs ys : List Reference) (r : Reference) → available.numbered m (xs ++ r ∷ ys) (m + length xs) ≡ Kept r
@@ -100,7 +100,7 @@ module _ (rec : Record) (ws : List ℕ) where
 
         not-over : (t : Bool) → eqb (rec .head .depth .0) 0 ≡ t → Offered (rec .head) r c → cond t true (ltZ (pos (c .0 * rec .head .timescale .0)) (endsAt (rec .head) r)) ≡ true
         not-over true f o = refl
-        not-over false f o = let apart = eqb-false (rec .head .depth .0) 0 f in o .upto (some-of (rec .head .depth .0) apart)
+        not-over false f o = o .upto (some-of (rec .head .depth .0) f)
 
         pub available-at : ExactlyWhen (availableIn rec ws (numbered (firstKept rec + length xs)) c ≡ Yes) (Offered (rec .head) r c)
         unfolding place

@@ -3,9 +3,9 @@
 use mathlib.Core.Path.{_≡_, refl, sym, ap, ap₂, subst, _∙_}
 use mathlib.Core.Bool.{Bool, true, false, cond, _&&_, not, and-eq-true-iff, true≢false, false≢true}
 use mathlib.Core.List.{List}
-use Prim.Native.Nat.{ℕ, zero, suc, _≤_}
+use Prim.Native.Nat.{ℕ, _≤_}
 use native.Mathlib.Omega.{arith}
-use borrow.Author.Tests.{eqb-true, eqb-false, eq-eqb, ne-eqb, leb-true, leb-false, le-leb, lt-leb}
+use borrow.Author.Tests.{eqb-true, eq-eqb, ne-eqb, leb-true, leb-false, le-leb, lt-leb, not-true, not-false}
 use lib.Dec.{eqb, leb}
 use Rattle.units.specs.Limits.{largestMillis, millisHeld}
 use Rattle.units.specs.declared.Millis.{Millis}
@@ -17,7 +17,7 @@ use Rattle.window.specs.Window.{Stretch, tickNeeded}
 use Rattle.agreement.specs.declared.Record.{Record}
 use Rattle.agreement.specs.declared.refusal.Refusal.{Refusal}
 use Rattle.agreement.specs.declared.refusal.Refusal.the-variants.{Disagreement, ClockLimit, EarlierClock, EndUnknown}
-use Rattle.agreement.specs.Agreement.{agrees, kept}
+use Rattle.agreement.specs.Agreement.{kept}
 use Rattle.answers.specs.declared.Verdict.{Verdict}
 use Rattle.answers.specs.declared.Verdict.the-variants.{Nothing, Complete, Lacking, Refused}
 use Rattle.answers.specs.declared.Percent.{Percent}
@@ -26,17 +26,11 @@ use Rattle.answers.specs.Cover.{coveredBy}
 use Rattle.answers.specs.Counts.{beyond, neededCount, coveredCount, lowestLacking}
 use Rattle.answers.specs.Judgement.{judged, verdictOf, verdictAt, verdictWhole, complete}
 use Rattle.answers.specs.Shares.{verdictPercent, hundred}
-use Rattle.answers.proofs.Counting.{refuted, any-count, count-none, count-some, count-all, count-each, none-counted, least-is}
+use Rattle.answers.proofs.Counting.{some-of, apart, refuted, any-count, count-none, count-some, count-all, count-each, none-counted, least-is}
+use Rattle.answers.proofs.Cases.{to-complete, to-lacking, by-count, asked-at, by-asked-at, asked-whole, by-asked-whole}
 use Rattle.answers.proofs.Covering.{needed-below}
 use Rattle.answers.proofs.Completeness.{complete-exactly, percent-at, percent-whole, lowest-lacks}
 use Rattle.laws.specs.Demand2.{ExactlyWhen, Many, Completes, Lacks, NeedsNone, Asked, AskedWhole, NotAsked, disagree, over, early, NotAskedWhole, disagreeing, unknown, atClock, inWhole}
-
-pub some-of : (n : ℕ) → (n ≡ 0 → ⊥) → 1 ≤ n
-some-of zero o = absurd (o refl)
-some-of (suc n) o = omega arith
-
-apart : (n : ℕ) → 1 ≤ n → n ≡ 0 → ⊥
-apart n l e = omega arith
 
 -- ---- a verdict by its counts, and back
 
@@ -44,31 +38,15 @@ module _ (n c l : ℕ) where
   to-nothing : n ≡ 0 → judged n c l ≡ Nothing
   to-nothing e = ap (λ s. cond s Nothing (cond (eqb c n) (Complete n) (Lacking n c (record { 0 = l })))) (eq-eqb n 0 e)
 
-  to-complete : 1 ≤ n → c ≡ n → judged n c l ≡ Complete n
-  to-complete some e =
-      ap₂ (λ s t. cond s Nothing (cond t (Complete n) (Lacking n c (record { 0 = l })))) (ne-eqb n 0 (apart n some)) (eq-eqb c n e)
-
-  to-lacking : 1 ≤ n → (c ≡ n → ⊥) → judged n c l ≡ Lacking n c (record { 0 = l })
-  to-lacking some o =
-      ap₂ (λ s t. cond s Nothing (cond t (Complete n) (Lacking n c (record { 0 = l })))) (ne-eqb n 0 (apart n some)) (ne-eqb c n o)
-
-  by-count : (A : Verdict → Type 0) → (n ≡ 0 → A Nothing) → (1 ≤ n → c ≡ n → A (Complete n)) → (1 ≤ n → (c ≡ n → ⊥) → A (Lacking n c (record { 0 = l }))) → A (judged n c l)
-  by-count A none all some = go (eqb n 0) refl (eqb c n) refl
-    where
-      go : (s : Bool) → eqb n 0 ≡ s → (t : Bool) → eqb c n ≡ t → A (cond s Nothing (cond t (Complete n) (Lacking n c (record { 0 = l }))))
-      go true e t f = none (eqb-true n 0 e)
-      go false e true f = all (some-of n (eqb-false n 0 e)) (eqb-true c n f)
-      go false e false f = some (some-of n (eqb-false n 0 e)) (eqb-false c n f)
-
   nothing-only : judged n c l ≡ Nothing → n ≡ 0
   nothing-only =
-      by-count (λ v. v ≡ Nothing → n ≡ 0) (λ e q. e)
+      by-count n c l (λ v. v ≡ Nothing → n ≡ 0) (λ e q. e)
       (λ s e q. let z : _≡_ {A = ℕ} 0 1 = cc in omega arith)
       (λ s o q. let z : _≡_ {A = ℕ} 0 1 = cc in omega arith)
 
   complete-only : (m : ℕ) → judged n c l ≡ Complete m → (1 ≤ n) × (c ≡ n) × (n ≡ m)
   complete-only m =
-      by-count (λ v. v ≡ Complete m → (1 ≤ n) × (c ≡ n) × (n ≡ m)) (λ e q. let z : _≡_ {A = ℕ} 0 1 = cc in absurd (let y : ⊥ = omega arith in y))
+      by-count n c l (λ v. v ≡ Complete m → (1 ≤ n) × (c ≡ n) × (n ≡ m)) (λ e q. let z : _≡_ {A = ℕ} 0 1 = cc in absurd (let y : ⊥ = omega arith in y))
       (λ s e q. (s, e, ap countOf q))
       (λ s o q. let z : _≡_ {A = ℕ} 0 1 = cc in absurd (let y : ⊥ = omega arith in y))
     where
@@ -80,7 +58,7 @@ module _ (n c l : ℕ) where
 
   lacking-only : (m d : ℕ) (k : WideTick) → judged n c l ≡ Lacking m d k → (n ≡ m) × (c ≡ d)
   lacking-only m d k =
-      by-count (λ v. v ≡ Lacking m d k → (n ≡ m) × (c ≡ d)) (λ e q. let z : _≡_ {A = ℕ} 0 1 = cc in absurd (let y : ⊥ = omega arith in y))
+      by-count n c l (λ v. v ≡ Lacking m d k → (n ≡ m) × (c ≡ d)) (λ e q. let z : _≡_ {A = ℕ} 0 1 = cc in absurd (let y : ⊥ = omega arith in y))
       (λ s e q. let z : _≡_ {A = ℕ} 0 1 = cc in absurd (let y : ⊥ = omega arith in y))
       (λ s o q. (ap countOf q, ap coverOf q))
     where
@@ -98,7 +76,7 @@ module _ (n c l : ℕ) where
 
   refused-never : (why : Refusal) → judged n c l ≡ Refused why → ⊥
   refused-never why =
-      by-count (λ v. v ≡ Refused why → ⊥) (λ e q. let z : _≡_ {A = ℕ} 0 1 = cc in omega arith)
+      by-count n c l (λ v. v ≡ Refused why → ⊥) (λ e q. let z : _≡_ {A = ℕ} 0 1 = cc in omega arith)
       (λ s e q. let z : _≡_ {A = ℕ} 0 1 = cc in omega arith)
       (λ s o q. let z : _≡_ {A = ℕ} 0 1 = cc in omega arith)
 
@@ -196,6 +174,10 @@ isRefused (Refused r) = true
 same-refusal : (r s : Refusal) → Refused r ≡ Refused s → r ≡ s
 same-refusal r s e = cc
 
+refused-no : {A : Type 0} (t : Verdict) → isRefused t ≡ false → (why : Refusal) → Refused why ≡ t → A
+unfolding isRefused
+refused-no t o why e = absurd (true≢false (ap isRefused e ∙ o))
+
 module _ (rec : Record) (ws : List ℕ) where
   of-window : Stretch → Verdict
   of-window w = verdictOf (rec .head) w (kept rec ws)
@@ -207,28 +189,16 @@ module _ (rec : Record) (ws : List ℕ) where
 
   module _ (c : Millis) where
     asked-only : (t : Verdict) → isRefused t ≡ false → verdictAt rec ws c ≡ t → Asked rec ws c × (of-window (atClock rec c) ≡ t)
-    unfolding of-window isRefused
-    asked-only t o = go (agrees rec ws) refl (millisHeld c) refl (leb (rec .clock .0) (c .0)) refl
-      where
-        no : {A : Type 0} (why : Refusal) → Refused why ≡ t → A
-        no why e = absurd (true≢false (ap isRefused e ∙ o))
-
-        go : (x : Bool) → agrees rec ws ≡ x → (y : Bool) → millisHeld c ≡ y → (z : Bool) → leb (rec .clock .0) (c .0) ≡ z →
-            cond x (cond y (cond z (of-window (atClock rec c)) (Refused EarlierClock)) (Refused ClockLimit)) (Refused Disagreement) ≡ t →
-            Asked rec ws c × (of-window (atClock rec c) ≡ t)
-        go true e true f true g q = (record { agreed = e; limit = leb-true (c .0) largestMillis f; later = leb-true (rec .clock .0) (c .0) g }, q)
-        go true e true f false g q = no EarlierClock q
-        go true e false f z g q = no ClockLimit q
-        go false e y f z g q = no Disagreement q
+    unfolding of-window
+    asked-only t o =
+        by-asked-at rec ws c (λ v. v ≡ t → Asked rec ws c × (of-window (atClock rec c) ≡ t)) (λ a. refused-no t o Disagreement)
+        (λ a m. refused-no t o ClockLimit)
+        (λ a m l. refused-no t o EarlierClock)
+        (λ a m l q. (record { agreed = a; limit = leb-true (c .0) largestMillis m; later = leb-true (rec .clock .0) (c .0) l }, q))
 
     asked-if : Asked rec ws c → verdictAt rec ws c ≡ of-window (atClock rec c)
     unfolding of-window
-    asked-if a =
-        ap
-        (λ s. cond s (cond (millisHeld c) (cond (leb (rec .clock .0) (c .0)) (of-window (atClock rec c)) (Refused EarlierClock)) (Refused ClockLimit)) (Refused Disagreement))
-        (a .agreed) ∙
-        ap₂ (λ s t. cond s (cond t (of-window (atClock rec c)) (Refused EarlierClock)) (Refused ClockLimit)) (le-leb (c .0) largestMillis (a .limit))
-        (le-leb (rec .clock .0) (c .0) (a .later))
+    asked-if a = asked-at rec ws c (a .agreed) (le-leb (c .0) largestMillis (a .limit)) (le-leb (rec .clock .0) (c .0) (a .later))
 
     pub complete-at : (n : ℕ) → ExactlyWhen (verdictAt rec ws c ≡ Complete n) (Asked rec ws c × Completes (rec .head) (atClock rec c) (kept rec ws) n)
     unfolding of-window isRefused
@@ -250,17 +220,18 @@ module _ (rec : Record) (ws : List ℕ) where
 
     pub refused-at : (why : Refusal) → ExactlyWhen (verdictAt rec ws c ≡ Refused why) (NotAsked rec ws c why)
     unfolding of-window
-    refused-at why = record { only = go (agrees rec ws) refl (millisHeld c) refl (leb (rec .clock .0) (c .0)) refl; if = back }
+    refused-at why =
+        record {
+          only =
+              by-asked-at rec ws c (λ v. v ≡ Refused why → NotAsked rec ws c why)
+              (λ a q. subst (NotAsked rec ws c) (same-refusal Disagreement why q) (disagree a))
+              (λ a m q. subst (NotAsked rec ws c) (same-refusal ClockLimit why q) (over a (leb-false (c .0) largestMillis m)))
+              (λ a m l q.
+              subst (NotAsked rec ws c) (same-refusal EarlierClock why q) (early a (leb-true (c .0) largestMillis m) (leb-false (rec .clock .0) (c .0) l)))
+              (λ a m l q. absurd (never-refused (atClock rec c) why q));
+          if = back;
+        }
       where
-        go : (x : Bool) → agrees rec ws ≡ x → (y : Bool) → millisHeld c ≡ y → (z : Bool) → leb (rec .clock .0) (c .0) ≡ z →
-            cond x (cond y (cond z (of-window (atClock rec c)) (Refused EarlierClock)) (Refused ClockLimit)) (Refused Disagreement) ≡ Refused why →
-            NotAsked rec ws c why
-        go true e true f true g q = absurd (never-refused (atClock rec c) why q)
-        go true e true f false g q =
-            subst (NotAsked rec ws c) (same-refusal EarlierClock why q) (early e (leb-true (c .0) largestMillis f) (leb-false (rec .clock .0) (c .0) g))
-        go true e false f z g q = subst (NotAsked rec ws c) (same-refusal ClockLimit why q) (over e (leb-false (c .0) largestMillis f))
-        go false e y f z g q = subst (NotAsked rec ws c) (same-refusal Disagreement why q) (disagree e)
-
         back : {x : Refusal} → NotAsked rec ws c x → verdictAt rec ws c ≡ Refused x
         back (disagree e) =
             ap
@@ -281,23 +252,15 @@ module _ (rec : Record) (ws : List ℕ) where
   -- ---- of the whole period
 
   whole-only : (t : Verdict) → isRefused t ≡ false → verdictWhole rec ws ≡ t → AskedWhole rec ws × (of-window (inWhole rec) ≡ t)
-  unfolding of-window isRefused
-  whole-only t o = go (agrees rec ws) refl (eqb (rec .head .duration .0) 0) refl
-    where
-      no : {A : Type 0} (why : Refusal) → Refused why ≡ t → A
-      no why e = absurd (true≢false (ap isRefused e ∙ o))
-
-      go : (x : Bool) → agrees rec ws ≡ x → (y : Bool) → eqb (rec .head .duration .0) 0 ≡ y →
-          cond x (cond (not y) (of-window (inWhole rec)) (Refused EndUnknown)) (Refused Disagreement) ≡ t → AskedWhole rec ws × (of-window (inWhole rec) ≡ t)
-      go true e false f q = (record { agreed = e; known = some-of (rec .head .duration .0) (eqb-false (rec .head .duration .0) 0 f) }, q)
-      go true e true f q = no EndUnknown q
-      go false e y f q = no Disagreement q
+  unfolding of-window
+  whole-only t o =
+      by-asked-whole rec ws (λ v. v ≡ t → AskedWhole rec ws × (of-window (inWhole rec) ≡ t)) (λ a. refused-no t o Disagreement)
+      (λ a k. refused-no t o EndUnknown)
+      (λ a k q. (record { agreed = a; known = some-of (rec .head .duration .0) (not-true (eqb (rec .head .duration .0) 0) k) }, q))
 
   whole-if : AskedWhole rec ws → verdictWhole rec ws ≡ of-window (inWhole rec)
   unfolding of-window
-  whole-if a =
-      ap₂ (λ s t. cond s (cond (not t) (of-window (inWhole rec)) (Refused EndUnknown)) (Refused Disagreement)) (a .agreed)
-      (ne-eqb (rec .head .duration .0) 0 (apart (rec .head .duration .0) (a .known)))
+  whole-if a = asked-whole rec ws (a .agreed) (ap not (ne-eqb (rec .head .duration .0) 0 (apart (rec .head .duration .0) (a .known))))
 
   pub complete-whole : (n : ℕ) → ExactlyWhen (verdictWhole rec ws ≡ Complete n) (AskedWhole rec ws × Completes (rec .head) (inWhole rec) (kept rec ws) n)
   unfolding of-window isRefused
@@ -319,14 +282,18 @@ module _ (rec : Record) (ws : List ℕ) where
 
   pub refused-whole : (why : Refusal) → ExactlyWhen (verdictWhole rec ws ≡ Refused why) (NotAskedWhole rec ws why)
   unfolding of-window
-  refused-whole why = record { only = go (agrees rec ws) refl (eqb (rec .head .duration .0) 0) refl; if = back }
+  refused-whole why =
+      record {
+        only =
+            by-asked-whole rec ws (λ v. v ≡ Refused why → NotAskedWhole rec ws why)
+            (λ a q. subst (NotAskedWhole rec ws) (same-refusal Disagreement why q) (disagreeing a))
+            (λ a k q.
+            subst (NotAskedWhole rec ws) (same-refusal EndUnknown why q)
+            (unknown a (eqb-true (rec .head .duration .0) 0 (not-false (eqb (rec .head .duration .0) 0) k))))
+            (λ a k q. absurd (never-refused (inWhole rec) why q));
+        if = back;
+      }
     where
-      go : (x : Bool) → agrees rec ws ≡ x → (y : Bool) → eqb (rec .head .duration .0) 0 ≡ y →
-          cond x (cond (not y) (of-window (inWhole rec)) (Refused EndUnknown)) (Refused Disagreement) ≡ Refused why → NotAskedWhole rec ws why
-      go true e false f q = absurd (never-refused (inWhole rec) why q)
-      go true e true f q = subst (NotAskedWhole rec ws) (same-refusal EndUnknown why q) (unknown e (eqb-true (rec .head .duration .0) 0 f))
-      go false e y f q = subst (NotAskedWhole rec ws) (same-refusal Disagreement why q) (disagreeing e)
-
       back : {x : Refusal} → NotAskedWhole rec ws x → verdictWhole rec ws ≡ Refused x
       back (disagreeing e) = ap (λ s. cond s (cond (endKnown (rec .head)) (of-window (inWhole rec)) (Refused EndUnknown)) (Refused Disagreement)) e
       back (unknown e f) =

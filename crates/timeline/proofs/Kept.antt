@@ -117,9 +117,9 @@ past-standing Joins x e = (refl, e)
 past-standing Gap x e = absurd (refused-not refusal.Gap e)
 past-standing Overlap x e = absurd (refused-not refusal.Overlap e)
 
-or-false : (a b : Bool) → (a || b) ≡ false → (a ≡ false) × (b ≡ false)
-or-false true b e = absurd (true≢false e)
-or-false false b e = (refl, e)
+pub or-none : (a b : Bool) → (a || b) ≡ false → (a ≡ false) × (b ≡ false)
+or-none true b e = absurd (true≢false e)
+or-none false b e = (refl, e)
 
 -- every condition that an accepted append has passed
 pub record Taken (rec : Record) (ws : List ℕ) (st : Standing) (d n : ℕ) : Type 0 where
@@ -137,7 +137,7 @@ unfolding appendOutcome fitOutcome roomOutcome
 taken rec ws st d n o =
     let a = past-if (agrees rec ws) (cond (eqb d 0 || eqb n 0) (Refused refusal.NothingGiven) (joining st (fitOutcome rec ws d n))) refusal.Disagreement o in
     let b = past-unless (eqb d 0 || eqb n 0) (joining st (fitOutcome rec ws d n)) refusal.NothingGiven (a .1) in
-    let z = or-false (eqb d 0) (eqb n 0) (b .0) in
+    let z = or-none (eqb d 0) (eqb n 0) (b .0) in
     let j = past-standing st (fitOutcome rec ws d n) (b .1) in
     let begins = every (λ r. beforeEnd (rec .head) (r .start .0)) (given rec d n) in
     let counts = countsHeld (rec .head .first .0) (rec .accepted + n) in

@@ -12,9 +12,7 @@ use mir.Val.{Fits}
 use Rattle.units.specs.declared.Millis.{Millis}
 use Rattle.units.specs.Limits.{largestMillis, millisHeld}
 use Rattle.window.specs.declared.Passed.{Passed}
-use Rattle.window.specs.Limits.{Held}
 use Rattle.window.specs.Ticks.{EndsPassed}
-use Rattle.runs.specs.Shape.{shaped}
 use Rattle.runs.specs.Encoding.{runsFor, canonical}
 use Rattle.runs.proofs.Joins.{kept-join}
 use Rattle.agreement.specs.declared.Record.{Record}
@@ -65,14 +63,8 @@ module _ (rec : Record) (ws : List ℕ) (a : agrees rec ws ≡ true) where
   facts : Agreeing rec ws
   facts = agreeing rec ws a
 
-  pub trim-held : Held (rec .head)
-  trim-held = facts .held .head
-
   pub trim-counts : rec .dropped ≤ rec .accepted
   trim-counts = facts .held .dropped
-
-  pub trim-shaped : shaped (rec .used) ws ≡ true
-  trim-shaped = facts .table
 
   pub trim-total : rec .accepted - rec .dropped ≡ length (kept rec ws)
   trim-total = sym (facts .total)
