@@ -168,16 +168,19 @@ module _ (h : Head) (t words : ℕ) (xs : List Run) (x : Run) (ys : List Run) (k
       (subst (λ rs. every (λ r. beforeEnd h (r .start .0)) rs ≡ true) (whole ∙ ap (λ rs. rs ++ referencesOf ys) more-are) (k .begun)) .0) .1)
       (subst⁻¹ (λ (n : ℕ). n ≤ capacity ws) runs-are (subst⁻¹ (λ (n : ℕ). length more ≤ n / 3) words-long more-long))
 
+  -- a record with this head that has been read, by what it counts and its next tick
+  counted : ℕ → ℕ → ℕ → ℕ → Record
+  counted n m e u = record { head = h; accepted = n; dropped = m; next = record { 0 = e }; clock = record { 0 = 0 }; used = u }
+
   pub step-record : appended (recordOf h t xs) (tableOf words xs) (x .span .0) (x .count) ≡ recordOf h t (xs ++ x ∷ [])
-  unfolding rec ws more
+  unfolding rec ws more counted
   step-record =
       let gone : 0 + (length (allOf rec ws (x .span .0) (x .count)) - length (leftOf rec ws (x .span .0) (x .count))) ≡ 0 =
       omega (arith, ap length all-are, ap length left-are)
       in
-      ap₂ (λ (m u : ℕ). record { head = h; accepted = length (referencesOf xs) + x .count; dropped = m; next = record { 0 = lastEnd t (referencesOf xs) + x .span .0 * x .count }; clock = record { 0 = 0 }; used = u })
-      gone
-      runs-are ∙
-      ap₂ (λ (n e : ℕ). record { head = h; accepted = n; dropped = 0; next = record { 0 = e }; clock = record { 0 = 0 }; used = length more }) count-is end-is
+      _∙_ {b = counted (length (referencesOf xs) + x .count) 0 (lastEnd t (referencesOf xs) + x .span .0 * x .count) (length more)}
+      (ap₂ (λ (m u : ℕ). counted (length (referencesOf xs) + x .count) m (lastEnd t (referencesOf xs) + x .span .0 * x .count) u) gone runs-are)
+      (ap₂ (λ (n e : ℕ). counted n 0 e (length more)) count-is end-is)
 
   pub step-words : canonical (length (tableOf words xs)) (leftOf (recordOf h t xs) (tableOf words xs) (x .span .0) (x .count)) ≡ tableOf words (xs ++ x ∷ [])
   unfolding rec ws more

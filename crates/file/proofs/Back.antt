@@ -47,7 +47,7 @@ unended : (l : List ℕ) → ((i : ℕ) → i < length l → getD l i 0 ≡ line
 unended [] u = tt
 unended (b ∷ bs) u = (u 0 (omega arith), unended bs (λ i h e. u (suc i) (omega arith) e))
 
-pub unended-line : (f : Frame) → Unended (lineOf f)
+unended-line : (f : Frame) → Unended (lineOf f)
 unended-line f = unended (lineOf f) (no-feed f)
 
 abbrev pub AllFit : List Frame → Type 0
@@ -55,7 +55,7 @@ AllFit [] = Unit {0}
 AllFit (f ∷ fs) = Fits f × AllFit fs
 
 -- frames taken one after another
-abbrev pub takeFrames : File → List Frame → File
+abbrev takeFrames : File → List Frame → File
 takeFrames x [] = x
 takeFrames x (f ∷ fs) = takeFrames (onFrame (x .reading .stage) (x .reading) (x .words) f) fs
 
@@ -108,12 +108,12 @@ module _ (h : Head) (t words : ℕ) (xs : List Run) (x : Run) (ys : List Run) (k
       go [] s = leads x ys s .short
       go (z ∷ zs) s = go zs (leads z (zs ++ x ∷ ys) s .rest)
 
-  pub more-agrees : agrees (recordOf h t (xs ++ x ∷ [])) (tableOf words (xs ++ x ∷ [])) ≡ true
+  more-agrees : agrees (recordOf h t (xs ++ x ∷ [])) (tableOf words (xs ++ x ∷ [])) ≡ true
   more-agrees =
       sym (ap₂ agrees (step-record h t words xs x ys k a) (step-words h t words xs x ys k a)) ∙
       accepted-keeps (recordOf h t xs) (tableOf words xs) Joins (x .span .0) (x .count) small (step-accepted h t words xs x ys k a)
 
-  pub run-taken : (st : Stage) (lines time : ℕ) →
+  run-taken : (st : Stage) (lines time : ℕ) →
       takeS (record { stage = st; lines = lines; rec = recordOf h t xs }) (tableOf words xs) Joins (record { t = record { 0 = time }; d = x .span; r = x .count - 1 }) ≡
       runsTaken h t words (xs ++ x ∷ []) Open (lines + 1)
   unfolding takeS settledReading wordsBy
@@ -132,7 +132,7 @@ module _ (h : Head) (t words : ℕ) (xs : List Run) (x : Run) (ys : List Run) (k
 
 -- ---- the later S lines
 
-pub later-taken : (h : Head) (t words : ℕ) (ys xs : List Run) → Takeable h t words (xs ++ ys) → agrees (recordOf h t xs) (tableOf words xs) ≡ true →
+later-taken : (h : Head) (t words : ℕ) (ys xs : List Run) → Takeable h t words (xs ++ ys) → agrees (recordOf h t xs) (tableOf words xs) ≡ true →
     (lines : ℕ) (fs : List Frame) → takeFrames (runsTaken h t words xs Open lines) (laterFrames ys ++ fs) ≡ takeFrames (runsTaken h t words (xs ++ ys) Open (lines + length ys)) fs
 unfolding laterFrames onOpen
 later-taken h t words [] xs k a lines fs =

@@ -38,7 +38,7 @@ module _ (b : List ℕ) (y : ℕ) (ys : List ℕ) where
 
 -- ---- pieces
 
-pub lines-append : (b xs ys : List ℕ) → linesFrom b (xs ++ ys) ≡ linesFrom b xs ++ linesFrom (restFrom b xs) ys
+lines-append : (b xs ys : List ℕ) → linesFrom b (xs ++ ys) ≡ linesFrom b xs ++ linesFrom (restFrom b xs) ys
 unfolding linesFrom restFrom
 lines-append b [] ys = refl
 lines-append b (x ∷ xs) ys = go (eqb x lineFeed) (lines-append [] xs ys) (lines-append (b ++ x ∷ []) xs ys)
@@ -66,7 +66,7 @@ ended [] = []
 ended (l ∷ ls) = l ++ lineFeed ∷ ended ls
 
 -- lines and rest put together are the bytes
-pub lines-joined : (b xs : List ℕ) → ended (linesFrom b xs) ++ restFrom b xs ≡ b ++ xs
+lines-joined : (b xs : List ℕ) → ended (linesFrom b xs) ++ restFrom b xs ≡ b ++ xs
 unfolding linesFrom restFrom
 lines-joined b [] = sym (append-nil b)
 lines-joined b (x ∷ xs) = go (eqb x lineFeed) refl (lines-joined [] xs) (lines-joined (b ++ x ∷ []) xs)
@@ -88,12 +88,12 @@ unended-more : (b : List ℕ) (x : ℕ) → Unended b → (x ≡ lineFeed → �
 unended-more [] x u n = (n, tt)
 unended-more (y ∷ ys) x u n = (u .0, unended-more ys x (u .1) n)
 
-abbrev pub AllUnended : List (List ℕ) → Type 0
+abbrev AllUnended : List (List ℕ) → Type 0
 AllUnended [] = Unit {0}
 AllUnended (l ∷ ls) = Unended l × AllUnended ls
 
 -- no line holds a feed, and the rest none
-pub lines-unended : (b xs : List ℕ) → Unended b → AllUnended (linesFrom b xs) × Unended (restFrom b xs)
+lines-unended : (b xs : List ℕ) → Unended b → AllUnended (linesFrom b xs) × Unended (restFrom b xs)
 unfolding linesFrom restFrom
 lines-unended b [] u = (tt, u)
 lines-unended b (x ∷ xs) u = go (eqb x lineFeed) refl (lines-unended [] xs tt) (λ n. lines-unended (b ++ x ∷ []) xs (unended-more b x u n))
@@ -120,7 +120,7 @@ rest-next b (y ∷ ys) xs u = rest-on b y (ys ++ lineFeed ∷ xs) (u .0) ∙ res
 
 -- ---- lines taken one after another
 
-pub lines-taken : (x : File) (ls ks : List (List ℕ)) → takeLines x (ls ++ ks) ≡ takeLines (takeLines x ls) ks
+lines-taken : (x : File) (ls ks : List (List ℕ)) → takeLines x (ls ++ ks) ≡ takeLines (takeLines x ls) ks
 unfolding takeLines
 lines-taken x [] ks = refl
 lines-taken x (l ∷ ls) ks = lines-taken (takeLine x l) ls ks

@@ -1,6 +1,7 @@
 -- Laws of the file, which belong to no one function.
 pub mod Counts
 pub mod Steps
+pub mod SLines
 pub mod Places
 pub mod Cutting
 pub mod Sounding

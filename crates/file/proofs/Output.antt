@@ -62,7 +62,7 @@ unfolding laterFrames
 later-length [] = refl
 later-length (r ∷ rs) = ap suc (later-length rs)
 
-pub frames-length : (rs : List Run) → length (sFrames rs) ≡ length rs
+frames-length : (rs : List Run) → length (sFrames rs) ≡ length rs
 unfolding sFrames
 frames-length [] = refl
 frames-length (r ∷ rs) = ap suc (later-length rs)

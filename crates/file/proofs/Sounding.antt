@@ -227,7 +227,7 @@ unfolding takeLine
 line-sound words x line h =
     frame-sound words (x .reading) (x .words) (h .1) (x .reading .stage) (frameOf line) (h .0) refl (narrow line (frameOf line) refl)
 
-pub lines-sound : (words : ℕ) (x : File) (ls : List (List ℕ)) → SoundFile words x → SoundFile words (takeLines x ls)
+lines-sound : (words : ℕ) (x : File) (ls : List (List ℕ)) → SoundFile words x → SoundFile words (takeLines x ls)
 unfolding takeLines
 lines-sound words x [] h = h
 lines-sound words x (l ∷ ls) h = lines-sound words (takeLine x l) ls (line-sound words x l h)

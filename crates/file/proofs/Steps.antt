@@ -1,49 +1,31 @@
--- The steps of the judgement of a line, as the code meets them.
-use mathlib.Core.Path.{_≡_, refl, sym, ap, ap₂, _∙_}
-use mathlib.Core.Bool.{Bool, true, false, cond, not, _&&_}
+-- The steps of the judgement of a line, as the code meets them: an absent t, what an outcome settles, the head and the end. S lines: SLines.
+use mathlib.Core.Path.{_≡_, sym, ap, ap₂, _∙_}
+use mathlib.Core.Bool.{Bool, true, false, cond, not}
 use mathlib.Core.List.{List}
-use Prim.Native.Nat.{ℕ, _+_, _-_, _≤_, _<_}
-use native.Mathlib.Omega.{arith}
-use borrow.Author.Tests.{le-leb, lt-ltb, le-ltb, eq-eqb, ne-eqb, not-true, not-false}
-use lib.Dec.{eqb, ltb}
-use lib.ListN.{length, replicate}
-use Rattle.units.specs.declared.Span.{Span}
+use Prim.Native.Nat.{ℕ, _+_, _-_}
+use borrow.Author.Tests.{eq-eqb, ne-eqb, not-true, not-false}
+use lib.ListN.{length}
 use Rattle.units.specs.declared.Tick.{Tick}
 use Rattle.units.specs.declared.WideTick.{WideTick}
 use Rattle.units.specs.declared.standing.Standing.{Standing}
-use Rattle.units.specs.declared.standing.Standing.the-variants.{Joins, Gap, Overlap}
-use Rattle.units.specs.Limits.{largestTick, largestSpan, spanHeld}
+use Rattle.units.specs.declared.standing.Standing.the-variants.{Joins}
 use Rattle.units.specs.Standing.{tickStanding}
 use Rattle.window.specs.declared.Head.{Head}
-use Rattle.window.specs.Limits.{headHeld, Held}
-use Rattle.window.specs.Place.{endKnown, beforeEnd}
-use Rattle.window.specs.Ticks.{LeastCount}
-use Rattle.window.proofs.Unsigned.{not-known, is-known}
+use Rattle.window.specs.Limits.{headHeld}
 use Rattle.runs.specs.Encoding.{canonical}
-use Rattle.runs.proofs.Encoded.{span-limits}
 use Rattle.agreement.specs.declared.Record.{Record}
 use Rattle.agreement.specs.declared.refusal.Refusal.{Refusal}
 use Rattle.agreement.specs.declared.refusal.Refusal.the-variants as refusal
-use Rattle.agreement.specs.Agreement.{agrees}
-use Rattle.agreement.proofs.Agreeing.{agreeing}
 use Rattle.keeping.specs.declared.Outcome.{Outcome}
 use Rattle.keeping.specs.declared.Outcome.the-variants as outcome
 use Rattle.keeping.specs.declared.Changed.{Changed}
 use Rattle.keeping.specs.Keeping.{changedBy, wordsBy}
-use Rattle.keeping.specs.Joined.{leftOf, fitOutcome, appended}
-use Rattle.timeline.specs.Opening.{freshRecord, zeroRecord, openOutcome, openAnswer, openTable}
-use Rattle.timeline.specs.Appending.{joining, appendOutcome}
-use Rattle.timeline.proofs.Judged.{no-duration, stands-gap, stands-overlap, stands-joins}
-use Rattle.timeline.proofs.Kept.{open-agrees}
-use Rattle.frames.specs.declared.SFields.{SFields}
+use Rattle.keeping.specs.Joined.{leftOf, appended}
+use Rattle.timeline.specs.Opening.{freshRecord, zeroRecord}
 use Rattle.file.specs.declared.Stage.{Stage}
-use Rattle.file.specs.declared.Stage.the-variants.{Headed, Open, Filled, Ended, Refused}
+use Rattle.file.specs.declared.Stage.the-variants.{Headed, Ended, Refused}
 use Rattle.file.specs.declared.Reading.{Reading}
-use Rattle.file.specs.Judging.{File, settledReading, refused, taken, settled, absent, firstTick, laterStanding, firstNegative, reachOutcome, reachesBy, appendedBy, takeS, openedBy, takeFirstS, takeHead, sLines, takeEnd}
-use Rattle.file.specs.Least.{leastCount}
-use Rattle.file.specs.Feeding.{mostLines}
-use Rattle.file.specs.Sound.{Running, Begins}
-use Rattle.file.proofs.Counts.{least-is, least-some}
+use Rattle.file.specs.Judging.{File, settledReading, refused, taken, settled, absent, firstTick, laterStanding, appendedBy, takeHead, sLines, takeEnd}
 
 -- ---- an absent t
 
@@ -78,21 +60,21 @@ unfolding changedBy settledReading
 settles outcome.Accepted s r new old c e = ap (λ (y : Changed). settledReading (y .outcome) s r (y .rec)) e
 settles (outcome.Refused why) s r new old c e = ap (λ (y : Changed). settledReading (y .outcome) s r (y .rec)) e
 
-both : (x y : Reading) (vs ws : List ℕ) → x ≡ y → vs ≡ ws → _≡_ {A = File} (record { reading = x; words = vs }) (record { reading = y; words = ws })
+pub both : (x y : Reading) (vs ws : List ℕ) → x ≡ y → vs ≡ ws → _≡_ {A = File} (record { reading = x; words = vs }) (record { reading = y; words = ws })
 both x y vs ws e k = ap₂ (λ a b. record { reading = a; words = b }) e k
 
 -- a refused outcome is a refused line
-refused-is : (o : Outcome) (why : Refusal) (s : Stage) (r : Reading) (rec : Record) (new ws : List ℕ) → o ≡ outcome.Refused why →
+pub refused-is : (o : Outcome) (why : Refusal) (s : Stage) (r : Reading) (rec : Record) (new ws : List ℕ) → o ≡ outcome.Refused why →
     refused why r ws ≡ settled o s r rec new ws
 unfolding settledReading wordsBy
 refused-is o why s r rec new ws e = sym (ap (λ y. settled y s r rec new ws) e)
 
 module _ (r : Reading) (ws : List ℕ) (why : Refusal) (x : Reading) (k : x ≡ record { stage = Refused why; lines = r .lines; rec = r .rec }) where
-  refused-by : (f : File) → refused why r ws ≡ f → _≡_ {A = File} (record { reading = x; words = ws }) f
+  pub refused-by : (f : File) → refused why r ws ≡ f → _≡_ {A = File} (record { reading = x; words = ws }) f
   refused-by f e = ap (λ y. record { reading = y; words = ws }) k ∙ e
 
 -- what was appended, by the outcome of the append
-appended-by : (o other : Outcome) (s : Stage) (r : Reading) (ws : List ℕ) (d n m : ℕ) → o ≡ other → n ≡ m →
+pub appended-by : (o other : Outcome) (s : Stage) (r : Reading) (ws : List ℕ) (d n m : ℕ) → o ≡ other → n ≡ m →
     (c : Changed) → c ≡ changedBy other (appended (r .rec) ws d n) (r .rec) →
     (vs : List ℕ) → vs ≡ wordsBy other (canonical (length ws) (leftOf (r .rec) ws d n)) ws →
     (x : Reading) → x ≡ settledReading (c .outcome) s r (c .rec) →
@@ -101,240 +83,6 @@ appended-by o other s r ws d n m e l c k vs v x j =
     both x (settledReading other s r (appended (r .rec) ws d n)) vs (wordsBy other (canonical (length ws) (leftOf (r .rec) ws d n)) ws)
     (j ∙ settles other s r (appended (r .rec) ws d n) (r .rec) c k) v ∙
     ap₂ (λ y i. appendedBy y s r ws d i) (sym e) l
-
--- ---- a negative r
-
-module _ (r : Reading) (ws : List ℕ) (span : Span) (h : Running r ws × (spanHeld span ≡ true)) where
-  least : ℕ
-  least = leastCount (r .rec .head) (r .rec .next .0) (span .0)
-
-  lasts : 1 ≤ span .0
-  lasts = span-limits span (h .1) .0
-
-  inner : Bool → Bool → ℕ → Outcome
-  inner known before n = cond known (cond before (fitOutcome (r .rec) ws (span .0) n) (outcome.Refused refusal.PastEnd)) (outcome.Refused refusal.NoEndToReach)
-
-  reach-is : (known before : Bool) (n : ℕ) → endKnown (r .rec .head) ≡ known → beforeEnd (r .rec .head) (r .rec .next .0) ≡ before →
-      reachOutcome (r .rec) ws Joins (span .0) n ≡ inner known before n
-  unfolding reachOutcome inner
-  reach-is known before n e b =
-      ap (λ t. cond t (outcome.Refused refusal.NothingGiven) (inner (endKnown (r .rec .head)) (beforeEnd (r .rec .head) (r .rec .next .0)) n))
-      (ne-eqb (span .0) 0 (λ z. let f : ⊥ = omega (arith, lasts) in f)) ∙
-      ap₂ (λ k t. inner k t n) e b
-
-  reach-refused : (why : Refusal) → reachOutcome (r .rec) ws Joins (span .0) least ≡ outcome.Refused why →
-      (x : Reading) → x ≡ record { stage = Refused why; lines = r .lines; rec = r .rec } →
-      _≡_ {A = File} (record { reading = x; words = ws }) (reachesBy r ws Joins (span .0))
-  unfolding reachesBy least
-  reach-refused why e x k =
-      refused-by r ws why x k (reachesBy r ws Joins (span .0))
-      (refused-is (reachOutcome (r .rec) ws Joins (span .0) least) why Filled r (appended (r .rec) ws (span .0) least)
-      (canonical (length ws) (leftOf (r .rec) ws (span .0) least)) ws e)
-
-  pub reach-unknown : r .rec .head .duration .0 ≡ 0 → (x : Reading) → x ≡ record { stage = Refused refusal.NoEndToReach; lines = r .lines; rec = r .rec } →
-      _≡_ {A = File} (record { reading = x; words = ws }) (reachesBy r ws Joins (span .0))
-  unfolding inner
-  reach-unknown z x k = reach-refused refusal.NoEndToReach (reach-is false (beforeEnd (r .rec .head) (r .rec .next .0)) least (not-known (r .rec .head) z) refl) x k
-
-  pub few-lines : r .lines ≤ mostLines
-  few-lines = omega (arith, h .0 .few, agreeing (r .rec) ws (h .0 .agreed) .held .accepted)
-
-  module _ (known : r .rec .head .duration .0 ≡ 0 → ⊥) where
-    pub before-asks : Held (r .rec .head) × (r .rec .next .0 ≤ largestTick)
-    before-asks = let f = agreeing (r .rec) ws (h .0 .agreed) .held in (f .head, f .next)
-
-    module _ (t : Bool) (e : t ≡ beforeEnd (r .rec .head) (r .rec .next .0)) where
-      pub reach-past : not t ≡ true → (x : Reading) → x ≡ record { stage = Refused refusal.PastEnd; lines = r .lines; rec = r .rec } →
-          _≡_ {A = File} (record { reading = x; words = ws }) (reachesBy r ws Joins (span .0))
-      unfolding inner
-      reach-past m x k = reach-refused refusal.PastEnd (reach-is true false least (is-known (r .rec .head) known) (sym e ∙ not-true t m)) x k
-
-      module _ (m : not t ≡ false) where
-        begins : beforeEnd (r .rec .head) (r .rec .next .0) ≡ true
-        begins = sym e ∙ not-false t m
-
-        pub least-asks : Held (r .rec .head) × (r .rec .next .0 ≤ largestTick) × (span .0 ≤ largestSpan) × (1 ≤ span .0) ×
-            (endKnown (r .rec .head) ≡ true) × (beforeEnd (r .rec .head) (r .rec .next .0) ≡ true)
-        least-asks = (before-asks .0, before-asks .1, span-limits span (h .1) .1, lasts, is-known (r .rec .head) known, begins)
-
-        module _ (n : ℕ) (l : LeastCount (r .rec .head) (r .rec .next .0) (span .0) n) where
-          pub joined-asks : (agrees (r .rec) ws ≡ true) × (spanHeld span ≡ true) × (1 ≤ n)
-          joined-asks = (h .0 .agreed, h .1, least-some (r .rec .head) (r .rec .next .0) (span .0) lasts n (is-known (r .rec .head) known) begins l)
-
-          pub reach-appended : (c : Changed) → c ≡ changedBy (fitOutcome (r .rec) ws (span .0) n) (appended (r .rec) ws (span .0) n) (r .rec) →
-              (vs : List ℕ) → vs ≡ wordsBy (fitOutcome (r .rec) ws (span .0) n) (canonical (length ws) (leftOf (r .rec) ws (span .0) n)) ws →
-              (x : Reading) → x ≡ settledReading (c .outcome) Filled r (c .rec) →
-              _≡_ {A = File} (record { reading = x; words = vs }) (reachesBy r ws Joins (span .0))
-          unfolding reachesBy least inner
-          reach-appended c k vs v x j =
-              let same : n ≡ least = least-is (r .rec .head) (r .rec .next .0) (span .0) lasts n l in
-              appended-by (reachOutcome (r .rec) ws Joins (span .0) least) (fitOutcome (r .rec) ws (span .0) n) Filled r ws (span .0) n least
-              (ap (reachOutcome (r .rec) ws Joins (span .0)) (sym same) ∙ reach-is true true n (is-known (r .rec .head) known) begins) same
-              c k vs v x j
-
--- ---- r of 0 or more
-
-module _ (r : Reading) (ws : List ℕ) (s : SFields) (h : Running r ws × (spanHeld (s .d) ≡ true)) where
-  pub s-reaches : firstNegative ≤ s .r → (x : Reading) (vs : List ℕ) → _≡_ {A = File} (record { reading = x; words = vs }) (reachesBy r ws Joins (s .d .0)) →
-      _≡_ {A = File} (record { reading = x; words = vs }) (takeS r ws Joins s)
-  unfolding takeS
-  s-reaches n x vs e =
-      e ∙
-      sym
-      (ap (λ b. cond b (appendedBy (appendOutcome (r .rec) ws Joins (s .d .0) (s .r + 1)) Open r ws (s .d .0) (s .r + 1)) (reachesBy r ws Joins (s .d .0)))
-      (le-ltb (s .r) firstNegative n))
-
-  module _ (n : s .r < firstNegative) where
-    pub s-lines : r .lines ≤ mostLines
-    s-lines = few-lines r ws (s .d) h
-
-    pub s-appended : (c : Changed) → c ≡ changedBy (fitOutcome (r .rec) ws (s .d .0) (s .r + 1)) (appended (r .rec) ws (s .d .0) (s .r + 1)) (r .rec) →
-        (vs : List ℕ) → vs ≡ wordsBy (fitOutcome (r .rec) ws (s .d .0) (s .r + 1)) (canonical (length ws) (leftOf (r .rec) ws (s .d .0) (s .r + 1))) ws →
-        (x : Reading) → x ≡ settledReading (c .outcome) Open r (c .rec) →
-        _≡_ {A = File} (record { reading = x; words = vs }) (takeS r ws Joins s)
-    unfolding takeS
-    s-appended c k vs v x j =
-        appended-by (appendOutcome (r .rec) ws Joins (s .d .0) (s .r + 1)) (fitOutcome (r .rec) ws (s .d .0) (s .r + 1)) Open r ws (s .d .0) (s .r + 1) (s .r + 1)
-        (stands-joins (r .rec) ws Joins (s .d .0) (s .r + 1) (h .0 .agreed) (λ z. let f : ⊥ = omega (arith, lasts r ws (s .d) h) in f)
-        (λ z. let f : ⊥ = omega arith in f) refl)
-        refl
-        c
-        k
-        vs
-        v
-        x
-        j ∙
-        sym
-        (ap (λ b. cond b (appendedBy (appendOutcome (r .rec) ws Joins (s .d .0) (s .r + 1)) Open r ws (s .d .0) (s .r + 1)) (reachesBy r ws Joins (s .d .0)))
-        (lt-ltb (s .r) firstNegative n))
-
--- ---- an S line that is refused before it is counted
-
-module _ (r : Reading) (ws : List ℕ) (st : Standing) (s : SFields) (h : Running r ws × (s .d .0 ≤ largestSpan)) where
-  -- what both kinds of r are refused with
-  s-refused : (why : Refusal) → ((n : ℕ) → (n ≡ 0 → ⊥) → appendOutcome (r .rec) ws st (s .d .0) n ≡ outcome.Refused why) →
-      ((n : ℕ) → reachOutcome (r .rec) ws st (s .d .0) n ≡ outcome.Refused why) →
-      (x : Reading) → x ≡ record { stage = Refused why; lines = r .lines; rec = r .rec } → _≡_ {A = File} (record { reading = x; words = ws }) (takeS r ws st s)
-  unfolding takeS reachesBy
-  s-refused why a b x k = refused-by r ws why x k (takeS r ws st s) (go (ltb (s .r) firstNegative))
-    where
-      least : ℕ
-      least = leastCount (r .rec .head) (r .rec .next .0) (s .d .0)
-
-      go : (t : Bool) → refused why r ws ≡
-          cond t (appendedBy (appendOutcome (r .rec) ws st (s .d .0) (s .r + 1)) Open r ws (s .d .0) (s .r + 1)) (reachesBy r ws st (s .d .0))
-      go true =
-          refused-is (appendOutcome (r .rec) ws st (s .d .0) (s .r + 1)) why Open r (appended (r .rec) ws (s .d .0) (s .r + 1))
-          (canonical (length ws) (leftOf (r .rec) ws (s .d .0) (s .r + 1))) ws (a (s .r + 1) (λ z. let f : ⊥ = omega arith in f))
-      go false =
-          let n = leastCount (r .rec .head) (r .rec .next .0) (s .d .0) in
-          refused-is (reachOutcome (r .rec) ws st (s .d .0) n) why Filled r (appended (r .rec) ws (s .d .0) n)
-          (canonical (length ws) (leftOf (r .rec) ws (s .d .0) n)) ws (b n)
-
-  inside : ℕ → Outcome
-  inside n =
-      cond (endKnown (r .rec .head))
-      (cond (beforeEnd (r .rec .head) (r .rec .next .0)) (fitOutcome (r .rec) ws (s .d .0) n) (outcome.Refused refusal.PastEnd))
-      (outcome.Refused refusal.NoEndToReach)
-
-  reach-by : (z : Bool) (k : Standing) (n : ℕ) → eqb (s .d .0) 0 ≡ z → st ≡ k →
-      reachOutcome (r .rec) ws st (s .d .0) n ≡ cond z (outcome.Refused refusal.NothingGiven) (joining k (inside n))
-  unfolding reachOutcome inside
-  reach-by z k n e j = ap₂ (λ b y. cond b (outcome.Refused refusal.NothingGiven) (joining y (inside n))) e j
-
-  pub s-nothing : s .d .0 ≡ 0 → (x : Reading) → x ≡ record { stage = Refused refusal.NothingGiven; lines = r .lines; rec = r .rec } →
-      _≡_ {A = File} (record { reading = x; words = ws }) (takeS r ws st s)
-  s-nothing z x k =
-      s-refused refusal.NothingGiven (λ n i. no-duration (r .rec) ws st (s .d .0) n (h .0 .agreed) z)
-      (λ n. reach-by true st n (eq-eqb (s .d .0) 0 z) refl) x k
-
-  module _ (i : s .d .0 ≡ 0 → ⊥) where
-    pub s-gap : st ≡ Gap → (x : Reading) → x ≡ record { stage = Refused refusal.Gap; lines = r .lines; rec = r .rec } →
-        _≡_ {A = File} (record { reading = x; words = ws }) (takeS r ws st s)
-    s-gap e x k =
-        s-refused refusal.Gap (λ n j. stands-gap (r .rec) ws st (s .d .0) n (h .0 .agreed) i j e)
-        (λ n. reach-by false Gap n (ne-eqb (s .d .0) 0 i) e) x k
-
-    pub s-overlap : st ≡ Overlap → (x : Reading) → x ≡ record { stage = Refused refusal.Overlap; lines = r .lines; rec = r .rec } →
-        _≡_ {A = File} (record { reading = x; words = ws }) (takeS r ws st s)
-    s-overlap e x k =
-        s-refused refusal.Overlap (λ n j. stands-overlap (r .rec) ws st (s .d .0) n (h .0 .agreed) i j e)
-        (λ n. reach-by false Overlap n (ne-eqb (s .d .0) 0 i) e) x k
-
-    pub s-held : Running r ws × (spanHeld (s .d) ≡ true)
-    s-held = (h .0, ap₂ _&&_ (le-leb 1 (s .d .0) (omega arith)) (le-leb (s .d .0) largestSpan (h .1)))
-
-    pub s-joins : st ≡ Joins → (x : Reading) (vs : List ℕ) → _≡_ {A = File} (record { reading = x; words = vs }) (takeS r ws Joins s) →
-        _≡_ {A = File} (record { reading = x; words = vs }) (takeS r ws st s)
-    s-joins e x vs k = k ∙ ap (λ y. takeS r ws y s) (sym e)
-
--- ---- the first S line
-
-module _ (r : Reading) (ws : List ℕ) (s : SFields) (h : Begins r × (s .d .0 ≤ largestSpan)) (t : Tick) (e : t ≡ firstTick (s .t))
-    (c : Changed) (k : c ≡ openAnswer (r .rec .head) t) (vs : List ℕ) (v : vs ≡ openTable (r .rec .head) t ws) where
-  opening : Outcome
-  opening = openOutcome (r .rec .head) (firstTick (s .t))
-
-  same-answer : c ≡ changedBy opening (freshRecord (r .rec .head) (firstTick (s .t))) zeroRecord
-  unfolding opening
-  same-answer = k ∙ ap (openAnswer (r .rec .head)) e
-
-  same-words : vs ≡ wordsBy opening (replicate (length ws) 0) ws
-  unfolding opening
-  same-words = v ∙ ap (λ y. openTable (r .rec .head) y ws) e
-
-  -- what the call answered tells its outcome
-  told : (o other : Outcome) (new old : Record) (d : Changed) → d ≡ changedBy o new old → d .outcome ≡ other → o ≡ other
-  unfolding changedBy
-  told outcome.Accepted other new old d p q = ap (λ (y : Changed). y .outcome) (sym p) ∙ q
-  told (outcome.Refused why) other new old d p q = ap (λ (y : Changed). y .outcome) (sym p) ∙ q
-
-  opens : (o : Outcome) → c .outcome ≡ o → opening ≡ o
-  opens o q = told opening o (freshRecord (r .rec .head) (firstTick (s .t))) zeroRecord c same-answer q
-
-  pub first-refused : (why : Refusal) → c .outcome ≡ outcome.Refused why →
-      (x : Reading) → x ≡ record { stage = Refused why; lines = r .lines; rec = r .rec } → _≡_ {A = File} (record { reading = x; words = vs }) (takeFirstS r ws s)
-  unfolding takeFirstS opening wordsBy
-  first-refused why q x j =
-      both x (record { stage = Refused why; lines = r .lines; rec = r .rec }) vs ws j
-      (same-words ∙ ap (λ o. wordsBy o (replicate (length ws) 0) ws) (opens (outcome.Refused why) q)) ∙
-      sym (ap (λ o. openedBy o r ws s) (opens (outcome.Refused why) q))
-
-  module _ (q : c .outcome ≡ outcome.Accepted) where
-    fresh : Record
-    fresh = freshRecord (r .rec .head) (firstTick (s .t))
-
-    opened-record : c .rec ≡ fresh
-    unfolding changedBy fresh
-    opened-record = ap (λ (y : Changed). y .rec) (same-answer ∙ ap (λ o. changedBy o fresh zeroRecord) (opens outcome.Accepted q))
-
-    opened-words : vs ≡ replicate (length ws) 0
-    unfolding wordsBy
-    opened-words = same-words ∙ ap (λ o. wordsBy o (replicate (length ws) 0) ws) (opens outcome.Accepted q)
-
-    opened-agrees : agrees fresh (replicate (length ws) 0) ≡ true
-    unfolding fresh opening
-    opened-agrees = open-agrees (r .rec .head) (firstTick (s .t)) (length ws) (opens outcome.Accepted q)
-
-    pub first-asks : Running (record { stage = Headed; lines = r .lines; rec = c .rec }) vs × (s .d .0 ≤ largestSpan)
-    unfolding fresh
-    first-asks = (
-      record {
-        agreed = ap₂ agrees opened-record opened-words ∙ opened-agrees;
-        some = omega (arith, h .0 .one);
-        few = omega (arith, h .0 .one);
-      },
-      h .1,
-    )
-
-    pub first-taken : (x : Reading) (us : List ℕ) →
-        _≡_ {A = File} (record { reading = x; words = us }) (takeS (record { stage = Headed; lines = r .lines; rec = c .rec }) vs Joins s) →
-        _≡_ {A = File} (record { reading = x; words = us }) (takeFirstS r ws s)
-    unfolding takeFirstS opening fresh
-    first-taken x us j =
-        j ∙
-        ap₂ (λ y z. takeS (record { stage = Headed; lines = r .lines; rec = y }) z Joins s) opened-record opened-words ∙
-        sym (ap (λ o. openedBy o r ws s) (opens outcome.Accepted q))
 
 -- ---- the head and the end
 

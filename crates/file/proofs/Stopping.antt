@@ -61,8 +61,8 @@ stop-cut (Refused why) n = refl
 -- ---- answer and words by the outcome
 
 module _ (o : Outcome) (r : Reading) where
-  pub answered-accepted : o ≡ outcome.Accepted → _≡_ {A = ReadAnswer} (record { outcome = outcome.Accepted; rec = r .rec; line = 0 }) (answeredBy o r)
-  answered-accepted e = sym (ap (λ y. answeredBy y r) e)
+  pub answered-accepted : o ≡ outcome.Accepted → _≡_ {A = ReadAnswer} (record { outcome = o; rec = r .rec; line = 0 }) (answeredBy o r)
+  answered-accepted e = ap (λ y. record { outcome = y; rec = r .rec; line = 0 }) e ∙ sym (ap (λ y. answeredBy y r) e)
 
   pub answered-refused : (why : Refusal) → o ≡ outcome.Refused why → (a : ReadAnswer) →
       a ≡ record { outcome = outcome.Refused why; rec = zeroRecord; line = r .lines + 1 } → a ≡ answeredBy o r

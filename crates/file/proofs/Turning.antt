@@ -45,10 +45,10 @@ module _ (x : Reader) (ws : List ℕ) (t : belongs x ws ≡ true) where
   held-parts : (leb (x .held) longestHeld ≡ true) × (zeros (drop (x .held) (x .line)) ≡ true)
   held-parts = and-eq-true-iff (leb (x .held) longestHeld) (zeros (drop (x .held) (x .line))) .0 (parts .0)
 
-  pub held-few : x .held ≤ longestHeld
+  held-few : x .held ≤ longestHeld
   held-few = leb-true (x .held) longestHeld (held-parts .0)
 
-  pub held-clear : zeros (drop (x .held) (x .line)) ≡ true
+  held-clear : zeros (drop (x .held) (x .line)) ≡ true
   held-clear = held-parts .1
 
   pub belongs-sound : Sound (x .reading .stage) (x .reading) ws

@@ -59,7 +59,7 @@ module _ (rec : Record) (ws : List ℕ) (a : agrees rec ws ≡ true) where
   pub kept-few : length (kept rec ws) ≤ 2 ^ 31
   kept-few = omega (arith, facts .total, facts .held .accepted)
 
-  pub used-few : rec .used ≤ 2 ^ 31
+  used-few : rec .used ≤ 2 ^ 31
   used-few = omega (arith, runs-few (runsOf (rec .used) ws) (runs-shaped (rec .used) ws (facts .table)), runs-length (rec .used) ws, kept-few)
 
   pub head-fits : Fits (HeadFrame (keptHead rec))
@@ -83,7 +83,7 @@ module _ (rec : Record) (ws : List ℕ) (a : agrees rec ws ≡ true) where
   end-fits = record { known = refl; fields = (omega (arith, used-few), tt) }
 
   -- its lines, as they are written
-  pub file-lines : fileFor rec ws ≡ (endedLine (HeadFrame (keptHead rec)) ++ bytesOf (sFrames (runsOf (rec .used) ws))) ++ endedLine (End (rec .used))
+  file-lines : fileFor rec ws ≡ (endedLine (HeadFrame (keptHead rec)) ++ bytesOf (sFrames (runsOf (rec .used) ws))) ++ endedLine (End (rec .used))
   unfolding fileOf bytesOf
   file-lines =
       let runs = runsOf (rec .used) ws in
@@ -100,7 +100,7 @@ module _ (rec : Record) (ws : List ℕ) (a : agrees rec ws ≡ true) where
   lines-long : length (bytesOf (sFrames (runsOf (rec .used) ws))) ≡ 35 * rec .used
   lines-long = runs-long (runsOf (rec .used) ws) ∙ ap (λ (n : ℕ). 35 * n) (runs-length (rec .used) ws)
 
-  pub file-length : length (fileFor rec ws) ≡ 83 + 35 * rec .used + 11
+  file-length : length (fileFor rec ws) ≡ 83 + 35 * rec .used + 11
   file-length =
       let head = endedLine (HeadFrame (keptHead rec)) in
       let lines = bytesOf (sFrames (runsOf (rec .used) ws)) in
@@ -250,7 +250,7 @@ module _ (rec : Record) (ws out : List ℕ) (t : Bool) (e : t ≡ agrees rec ws)
   write-disagrees m = output-of (Refused Disagreement) (by-agrees ∙ ap (λ b. cond b inner (Refused Disagreement)) (not-true t m)) out refl
 
   module _ (m : not t ≡ false) where
-    pub write-agrees : agrees rec ws ≡ true
+    write-agrees : agrees rec ws ≡ true
     write-agrees = sym e ∙ not-false t m
 
     agreed : writeAnswer rec ws (length out) ≡ inner
@@ -283,13 +283,10 @@ module _ (rec : Record) (ws out : List ℕ) (t : Bool) (e : t ≡ agrees rec ws)
       pub write-product : FitsWord w64 (35 * rec .used)
       write-product = record { fits = omega (arith, few-runs) }
 
-      pub write-sum : FitsWord w64 (83 + 35 * rec .used)
-      write-sum = record { fits = omega (arith, few-runs) }
-
-      pub write-total : FitsWord w64 (83 + 35 * rec .used + 11)
+      pub write-total : FitsWord w64 (94 + 35 * rec .used)
       write-total = record { fits = omega (arith, few-runs) }
 
-      pub write-short : length out < 83 + 35 * rec .used + 11 →
+      pub write-short : length out < 94 + 35 * rec .used →
           (Refused ShortOutput ≡ writeAnswer rec ws (length out)) × (out ≡ outputBy (writeAnswer rec ws (length out)) (fileFor rec ws) out)
       unfolding outputBy
       write-short l =
@@ -300,7 +297,7 @@ module _ (rec : Record) (ws out : List ℕ) (t : Bool) (e : t ≡ agrees rec ws)
           out
           refl
 
-      module _ (l : 83 + 35 * rec .used + 11 ≤ length out) where
+      module _ (l : 94 + 35 * rec .used ≤ length out) where
         pub write-asks : (agrees rec ws ≡ true) × (length (fileFor rec ws) ≤ length out)
         write-asks = (write-agrees, omega (arith, file-length rec ws write-agrees))
 

@@ -161,7 +161,7 @@ fn answered(outcome: Outcome, reading: Reading) -> ReadAnswer
         Outcome::Accepted => {
             let rec = reading.rec;
             ReadAnswer {
-                outcome: Outcome::Accepted,
+                outcome,
                 rec,
                 line: 0,
             }

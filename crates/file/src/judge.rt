@@ -4,7 +4,7 @@ ghost use mathlib.Core.Bool.{true};
 ghost use mathlib.Core.List.{List};
 ghost use Prim.Native.Nat.{ℕ, _+_, _≤_, _^_};
 ghost use Rattle.units.specs.Limits.{largestSpan, spanHeld};
-ghost use Rattle.file.specs.Judging.{File, settledReading, misplaced, firstTick, laterStanding, reachesBy, takeS, takeFirstS, takeHead, takeEnd, onNothing, onHeaded, onOpen, onFilled, takeLine};
+ghost use Rattle.file.specs.Judging.{File, settledReading, misplaced, firstTick, laterStanding, reachesBy, takeS, takeEnd, onNothing, onHeaded, onOpen, onFilled, takeLine};
 ghost use Rattle.file.specs.Feeding.{mostLines};
 ghost use Rattle.file.specs.Sound.{Running, Begins, Narrow, Sound};
 use crate::ABSENT;
@@ -20,7 +20,6 @@ use units::Span;
 use units::Standing;
 use units::Tick;
 use units::WideTick;
-use window::Head;
 
 // As a signed number r is negative from here on.
 const FIRST_NEGATIVE: u64 = 2_147_483_648;
@@ -97,33 +96,19 @@ fn reach_end(reading: Reading, table: &mut [u64], span: Span) -> Reading
     requires { ⌜ Running reading (now table) × (spanHeld span ≡ true) ⌝ }
     ensures { λ r. ⌜ record { reading = r; words = now (table .exit) } ≡ reachesBy reading (now (table .entry)) Standing.Joins (span .0) ⌝ }
 {
-    let rec = reading.rec;
-    let head = rec.head;
-    if head.duration.0 == 0 {
+    if reading.rec.head.duration.0 == 0 {
         return refuse(reading, Refusal::NoEndToReach);
     }
-    if !head.before_end(rec.next) {
+    if !reading.rec.head.before_end(reading.rec.next) {
         return refuse(reading, Refusal::PastEnd);
     }
-    let count = head.least_count(rec.next, span);
-    let changed = keeping::append_joined(rec, table, span, count);
+    let count = reading.rec.head.least_count(reading.rec.next, span);
+    let changed = keeping::append_joined(reading.rec, table, span, count);
     settle(reading, Stage::Filled, changed)
 }
 
-// Inner: callers show as above. What an S line that joins gives is appended.
-fn append_s(reading: Reading, table: &mut [u64], s: SFields) -> Reading
-    requires { ⌜ Running reading (now table) × (spanHeld (s .d) ≡ true) ⌝ }
-    ensures { λ r. ⌜ record { reading = r; words = now (table .exit) } ≡ takeS reading (now (table .entry)) Standing.Joins s ⌝ }
-{
-    let span = s.d;
-    if FIRST_NEGATIVE <= s.r {
-        return reach_end(reading, table, span);
-    }
-    let changed = keeping::append_joined(reading.rec, table, span, s.r + 1);
-    settle(reading, Stage::Open, changed)
-}
-
-// Inner: callers show that record and table agree and that the duration is one of 32 bits.
+// Inner: callers show that record and table agree and that the duration is one of 32 bits. What an S
+// line that joins gives is appended.
 fn take_s(reading: Reading, table: &mut [u64], standing: Standing, s: SFields) -> Reading
     requires { ⌜ Running reading (now table) × (s .d .0 ≤ largestSpan) ⌝ }
     ensures { λ r. ⌜ record { reading = r; words = now (table .exit) } ≡ takeS reading (now (table .entry)) standing s ⌝ }
@@ -132,44 +117,16 @@ fn take_s(reading: Reading, table: &mut [u64], standing: Standing, s: SFields) -
         return refuse(reading, Refusal::NothingGiven);
     }
     match standing {
-        Standing::Joins => append_s(reading, table, s),
+        Standing::Joins => {
+            if FIRST_NEGATIVE <= s.r {
+                return reach_end(reading, table, s.d);
+            }
+            let changed = keeping::append_joined(reading.rec, table, s.d, s.r + 1);
+            settle(reading, Stage::Open, changed)
+        }
         Standing::Gap => refuse(reading, Refusal::Gap),
         Standing::Overlap => refuse(reading, Refusal::Overlap),
     }
-}
-
-// Inner: callers show that the head is held and the duration is one of 32 bits. Opens, then appends.
-fn take_first_s(reading: Reading, table: &mut [u64], s: SFields) -> Reading
-    requires { ⌜ Begins reading × (s .d .0 ≤ largestSpan) ⌝ }
-    ensures { λ r. ⌜ record { reading = r; words = now (table .exit) } ≡ takeFirstS reading (now (table .entry)) s ⌝ }
-{
-    let opened = timeline::open(reading.rec.head, first_tick(s.t), table);
-    let outcome = opened.outcome;
-    match outcome {
-        Outcome::Accepted => {
-            let rec = opened.rec;
-            let fresh = Reading {
-                stage: Stage::Headed,
-                lines: reading.lines,
-                rec,
-            };
-            take_s(fresh, table, Standing::Joins, s)
-        }
-        Outcome::Refused(why) => refuse(reading, why),
-    }
-}
-
-// Inner: callers show that no line is taken yet.
-fn take_head(reading: Reading, head: Head) -> Reading
-    requires { ⌜ reading .lines ≡ 0 ⌝ }
-    ensures { λ r. ⌜ ((ws : List ℕ) → _≡_ {A = File} (record { reading = r; words = ws }) (takeHead reading ws head)) ⌝ }
-{
-    if !head.held() {
-        return refuse(reading, Refusal::OverLimit);
-    }
-    let mut rec = timeline::zero_record();
-    rec.head = head;
-    take(reading, Stage::Headed, rec)
 }
 
 // Inner: callers show that an S line is taken.
@@ -184,7 +141,7 @@ fn take_end(reading: Reading, count: u64) -> Reading
     take(reading, Stage::Ended, reading.rec)
 }
 
-// Inner: callers show that no line is taken yet. Only a head may come.
+// Inner: callers show that no line is taken yet. Only a head may come, with its fields in their limits.
 fn on_nothing(reading: Reading, frame: Frame) -> Reading
     requires { ⌜ reading .lines ≡ 0 ⌝ }
     ensures { λ r. ⌜ ((ws : List ℕ) → _≡_ {A = File} (record { reading = r; words = ws }) (onNothing reading ws frame)) ⌝ }
@@ -192,11 +149,16 @@ fn on_nothing(reading: Reading, frame: Frame) -> Reading
     let Frame::Head(head) = frame else {
         return refuse(reading, misplaced(frame));
     };
-    take_head(reading, head)
+    if !head.held() {
+        return refuse(reading, Refusal::OverLimit);
+    }
+    let mut rec = timeline::zero_record();
+    rec.head = head;
+    take(reading, Stage::Headed, rec)
 }
 
 // Inner: callers show that the head is held and an S line's duration is one of 32 bits. Only an S line
-// may come.
+// may come: it opens the timeline, and then what it gives is appended.
 fn on_headed(reading: Reading, table: &mut [u64], frame: Frame) -> Reading
     requires { ⌜ Begins reading × Narrow frame ⌝ }
     ensures { λ r. ⌜ record { reading = r; words = now (table .exit) } ≡ onHeaded reading (now (table .entry)) frame ⌝ }
@@ -204,7 +166,20 @@ fn on_headed(reading: Reading, table: &mut [u64], frame: Frame) -> Reading
     let Frame::S(s) = frame else {
         return refuse(reading, misplaced(frame));
     };
-    take_first_s(reading, table, s)
+    let opened = timeline::open(reading.rec.head, first_tick(s.t), table);
+    let outcome = opened.outcome;
+    match outcome {
+        Outcome::Accepted => {
+            let rec = opened.rec;
+            let fresh = Reading {
+                stage: Stage::Headed,
+                lines: reading.lines,
+                rec,
+            };
+            take_s(fresh, table, Standing::Joins, s)
+        }
+        Outcome::Refused(why) => refuse(reading, why),
+    }
 }
 
 // Inner: callers show that record and table agree, and as above. An S line may come, or the end.

@@ -20,12 +20,10 @@ use units::Number;
 use units::WideTick;
 use window::Head;
 
-// The bytes of a head line, an S line and an end line, each with its feed.
-const HEAD_BYTES: usize = 83;
+// The bytes of a head line and an end line, and of an S line, each with its feed.
+const HEAD_AND_END_BYTES: usize = 94;
 
 const S_BYTES: usize = 35;
-
-const END_BYTES: usize = 11;
 
 // Inner: callers show that the number fits. The head with the number of the first kept reference.
 fn kept_head(rec: Record) -> Head
@@ -92,7 +90,7 @@ pub fn write(rec: Record, table: &[u64], out: &mut [u8]) -> WriteAnswer
     if used == 0 {
         return WriteAnswer::Refused(Refusal::NothingKept);
     }
-    if out.len() < HEAD_BYTES + S_BYTES * used + END_BYTES {
+    if out.len() < HEAD_AND_END_BYTES + S_BYTES * used {
         return WriteAnswer::Refused(Refusal::ShortOutput);
     }
     WriteAnswer::Written(write_all(rec, table, out))

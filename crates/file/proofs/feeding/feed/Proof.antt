@@ -27,13 +27,22 @@ loop-again c =
     turn-feed _ _ _ _ _ _ _ _ (test .before .loop .inv) (test .loop-test .taken) (then2 .if2 .taken) _ _ (took .take-line .kept .1 .0) (took .take-line .ensures)
 
 loop-again-2 : tie.Need-loop-again-2 Inv-loop μ-loop
-loop-again-2 c = search (needs, turn-held)
+loop-again-2 c =
+    let else2 = c .before in
+    let test = else2 .before .before in
+    turn-held _ _ _ _ _ _ _ _ (test .before .loop .inv) (test .loop-test .taken) (else2 .if2 .left) (c .if3 .taken)
 
 loop-again-3 : tie.Need-loop-again-3 Inv-loop μ-loop
-loop-again-3 c = search (needs, turn-over)
+loop-again-3 c =
+    let else2 = c .before in
+    let test = else2 .before .before in
+    turn-over _ _ _ _ _ _ _ _ (test .before .loop .inv) (test .loop-test .taken) (else2 .if2 .left) (c .if3 .left)
 
 returns : tie.Need-returns Inv-loop μ-loop
-returns c = search (needs, unfed-reader, unfed-table)
+returns c =
+    let asked = c .before in
+    let reader = asked .before .before .before .before .args .reader in
+    (unfed-reader reader _ _ (asked .belongs .ensures) (c .if1 .taken) _, unfed-table reader _ _ (asked .belongs .ensures) (c .if1 .taken) _)
 
 returns-2 : tie.Need-returns-2 Inv-loop μ-loop
 returns-2 c =

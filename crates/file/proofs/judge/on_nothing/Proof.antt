@@ -1,5 +1,6 @@
--- `on_nothing` meets its contract, either way.
+-- `on_nothing` meets its contract, case by case.
 use borrow.Author.Needs.{needs}
+use Rattle.file.proofs.Steps.{head-over, head-taken}
 use Rattle.file.proofs.Places.{nothing-misplaced, nothing-head}
 use Rattle.file.proofs.judge.on_nothing.Statement.{statement}
 use Rattle.file.proofs.judge.on_nothing.Tie as tie
@@ -11,9 +12,21 @@ returns c =
 
 returns-2 : tie.Need-returns-2
 returns-2 c =
-    let told = c .before .before in
+    let asked = c .before .before in
+    let told = asked .before .before in
     let start = told .before .before in
-    nothing-head (start .args .reading) (start .args .frame) _ (told .frame .given .1) _ (c .take-head .ensures)
+    nothing-head (start .args .reading) (start .args .frame) _ (told .frame .given .1) _
+    (head-over (start .args .reading) _ _ (asked .held .ensures) (c .before .if1 .taken) _ (c .refuse2 .ensures))
+
+returns-3 : tie.Need-returns-3
+returns-3 c =
+    let zero = c .before in
+    let else1 = zero .before in
+    let asked = else1 .before in
+    let told = asked .before .before in
+    let start = told .before .before in
+    nothing-head (start .args .reading) (start .args .frame) _ (told .frame .given .1) _
+    (head-taken (start .args .reading) _ _ (asked .held .ensures) (else1 .if1 .left) _ (zero .zero-record .ensures) _ (c .take .ensures))
 
 pub on-nothing-spec : {M : Type 1} → statement M
 on-nothing-spec =
@@ -24,4 +37,8 @@ on-nothing-spec =
     (λ c κs. search needs)
     returns
     (λ c κs. search needs)
-    returns-2)
+    (λ c κs. search needs)
+    returns-2
+    (λ c κs. search needs)
+    (λ c κs. search needs)
+    returns-3)

@@ -1,6 +1,6 @@
 -- `write` meets its contract, test by test.
 use borrow.Author.Needs.{needs}
-use Rattle.file.proofs.Whole.{write-disagrees, write-nothing, write-product, write-sum, write-total, write-short, write-asks, write-whole}
+use Rattle.file.proofs.Whole.{write-disagrees, write-nothing, write-product, write-total, write-short, write-asks, write-whole}
 use Rattle.file.proofs.writing.write.Statement.{statement}
 use Rattle.file.proofs.writing.write.Tie as tie
 
@@ -23,12 +23,6 @@ mul-if3 c =
 
 add-if3 : tie.Need-add-if3
 add-if3 c =
-    let else1 = c .before in
-    let start = else1 .before .before .before .before in
-    write-sum (start .args .rec) (start .args .table .now) (start .args .out .now) _ (else1 .before .agrees .ensures) (else1 .if1 .left) (c .if2 .left)
-
-add-if3-2 : tie.Need-add-if3-2
-add-if3-2 c =
     let else1 = c .before in
     let start = else1 .before .before .before .before in
     write-total (start .args .rec) (start .args .table .now) (start .args .out .now) _ (else1 .before .agrees .ensures) (else1 .if1 .left) (c .if2 .left)
@@ -68,7 +62,6 @@ write-spec =
     returns-2
     mul-if3
     add-if3
-    add-if3-2
     returns-3
     write-all-requires
     (λ c. search needs)
