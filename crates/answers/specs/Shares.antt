@@ -18,6 +18,11 @@ verdictPercent (Complete needed) = percentOf needed needed
 verdictPercent (Lacking needed covered lowest) = percentOf covered needed
 verdictPercent (Refused r) = Undefined
 
+-- as a number: what has no percent shows 0
+abbrev pub percentNumber : Percent → ℕ
+percentNumber (Of n) = n
+percentNumber Undefined = 0
+
 abbrev pub hundred : Percent → Bool
 hundred (Of n) = eqb n 100
 hundred Undefined = false

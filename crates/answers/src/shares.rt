@@ -1,7 +1,7 @@
 // Percent, rounded down: 9,999 of 10,000 is 99.
 ghost use mathlib.Core.Path.{_≡_};
 ghost use Prim.Native.Nat.{_*_, _/_, _≤_, _<_};
-ghost use Rattle.answers.specs.Shares.{percentOf, verdictPercent};
+ghost use Rattle.answers.specs.Shares.{percentOf, verdictPercent, percentNumber};
 use crate::Percent;
 use crate::Verdict;
 
@@ -50,6 +50,18 @@ impl Verdict {
             Verdict::Complete(needed) => percent(needed, needed),
             Verdict::Lacking(needed, covered, _) => percent(covered, needed),
             Verdict::Refused(_) => Percent::Undefined,
+        }
+    }
+}
+
+impl Percent {
+    // As a number, where one is shown or told: 0 where there is no percent.
+    pub fn number(self) -> u64
+        ensures { λ r. ⌜ r ≡ percentNumber self ⌝ }
+    {
+        match self {
+            Percent::Of(whole) => whole,
+            Percent::Undefined => 0,
         }
     }
 }

@@ -1,11 +1,9 @@
 // The answers of the calls that look, printed: the number of the refusal, 0 where there is none, and
 // the words of the answer.
 use crate::show::put;
-use crate::steps::PLACES;
 use agreement::Record;
 use answers::Availability;
 use answers::AvailableAt;
-use answers::Percent;
 use answers::Touching;
 use answers::Verdict;
 use libc::STDOUT_FILENO;
@@ -23,15 +21,8 @@ fn row(number: u64, a: u64, b: u64, c: u64, d: u64, e: u64) {
     put(e);
 }
 
-fn whole(percent: Percent) -> u64 {
-    match percent {
-        Percent::Of(n) => n,
-        Percent::Undefined => 0,
-    }
-}
-
 fn put_verdict(verdict: Verdict) {
-    let percent = whole(verdict.percent());
+    let percent = verdict.percent().number();
     match verdict {
         Verdict::Nothing => row(0, 0, 0, 0, 0, percent),
         Verdict::Complete(n) => row(0, 1, n, n, 0, percent),
@@ -56,6 +47,11 @@ fn put_touching(touching: Touching, words: usize) {
     }
 }
 
+fn touch(rec: Record, table: &[u64], a: WideTick, b: WideTick) {
+    let part = answers::spans::touching(rec, table, a, b);
+    put_touching(answers::spans::touching_words(rec, table, a, b), part.len());
+}
+
 fn put_available(available: AvailableAt) {
     match available {
         AvailableAt::Yes => row(0, 1, 0, 0, 0, 0),
@@ -66,18 +62,13 @@ fn put_available(available: AvailableAt) {
 
 // Verdict at a clock, of the whole period, availability of a number, the runs that touch a span, and
 // whether a number is available at a clock.
-pub(crate) fn look(name: u8, rec: Record, table: &[u64], s: [u64; PLACES]) {
+pub(crate) fn look(name: u8, rec: Record, table: &[u64], a: u64, b: u64) {
     match name {
-        b'v' => put_verdict(answers::verdicts::verdict(rec, table, Millis(s[1]))),
+        b'v' => put_verdict(answers::verdicts::verdict(rec, table, Millis(a))),
         b'w' => put_verdict(answers::verdicts::verdict_whole(rec, table)),
-        b'n' => put_availability(answers::times::availability(rec, table, Number(s[1]))),
-        b'r' => {
-            let a = WideTick(s[1]);
-            let b = WideTick(s[2]);
-            let part = answers::spans::touching(rec, table, a, b);
-            put_touching(answers::spans::touching_words(rec, table, a, b), part.len());
-        }
-        _ => put_available(answers::times::available_at(rec, table, Number(s[1]), Millis(s[2]))),
+        b'n' => put_availability(answers::times::availability(rec, table, Number(a))),
+        b'r' => touch(rec, table, WideTick(a), WideTick(b)),
+        _ => put_available(answers::times::available_at(rec, table, Number(a), Millis(b))),
     }
     io::write_all(STDOUT_FILENO, b"\n");
 }

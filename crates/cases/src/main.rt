@@ -28,16 +28,15 @@ fn low(word: u64) -> u32 {
     (word % 4294967296) as u32
 }
 
-fn open(table: &mut [u64], s: [u64; PLACES]) -> Changed {
-    let head = Head {
+fn head(s: [u64; PLACES]) -> Head {
+    Head {
         timescale: Timescale(s[1]),
         offset: Tick(s[2]),
         start: Millis(s[3]),
         duration: Millis(s[4]),
         depth: Millis(s[5]),
         first: Number(s[6]),
-    };
-    timeline::open(head, Tick(s[7]), table)
+    }
 }
 
 fn changes(name: u8) -> bool {
@@ -48,17 +47,22 @@ fn changes(name: u8) -> bool {
 }
 
 fn change(name: u8, rec: Record, table: &mut [u64], s: [u64; PLACES]) -> Changed {
+    if name == b'o' {
+        return timeline::open(head(s), Tick(s[7]), table);
+    }
+    let at = s[1];
+    let duration = low(s[2]);
+    let count = low(s[3]);
     match name {
-        b'o' => open(table, s),
-        b'a' => timeline::append(rec, table, WideTick(s[1]), low(s[2]), low(s[3])),
-        b's' => timeline::append_stamp(rec, table, Stamp(low(s[1])), low(s[2]), low(s[3])),
-        _ => timeline::trim(rec, table, Millis(s[1])),
+        b'a' => timeline::append(rec, table, WideTick(at), duration, count),
+        b's' => timeline::append_stamp(rec, table, Stamp(low(at)), duration, count),
+        _ => timeline::trim(rec, table, Millis(at)),
     }
 }
 
 fn call(name: u8, rec: Record, table: &mut [u64], s: [u64; PLACES]) -> Record {
     if !changes(name) {
-        look(name, rec, table, s);
+        look(name, rec, table, s[1], s[2]);
         return rec;
     }
     let changed = change(name, rec, table, s);

@@ -1,17 +1,19 @@
 -- What an exported call comes to: all as it came where a length is wrong, else what the call behind it answers for the record
 -- that the words mean.
-use mathlib.Core.Path.{_≡_, ap, _∙_}
+use mathlib.Core.Path.{_≡_, refl, ap, _∙_}
 use mathlib.Core.List.{List, [], _∷_}
 use Prim.Native.Nat.{ℕ}
 use lib.ListN.{length, set}
+use Rattle.units.specs.Standing.{stampStanding}
 use Rattle.agreement.specs.declared.Record.{Record}
 use Rattle.keeping.specs.declared.Changed.{Changed}
 use Rattle.keeping.specs.Keeping.{outcomeNumber}
+use Rattle.timeline.specs.Appending.{appendAnswer, appendTable}
 use Rattle.file.specs.declared.ReadAnswer.{ReadAnswer}
 use Rattle.file.specs.declared.WriteAnswer.{WriteAnswer}
 use Rattle.flonterri.specs.Words.{recordOf, wordsOf}
 use Rattle.flonterri.specs.Tells.{Tells, writeTells}
-use Rattle.flonterri.specs.Face.{wrongRecord, wrongLength, Changes, changes, tells, Reads, readsBy, Writes, writesBy}
+use Rattle.flonterri.specs.Face.{wrongRecord, wrongLength, Changes, changes, appendsStamp, tells, Reads, readsBy, Writes, writesBy}
 use Rattle.flonterri.proofs.Words.{all-set}
 use Rattle.flonterri.proofs.Lengths.{stopped, behind, second-right}
 
@@ -27,25 +29,45 @@ module _ (ws ts : List ℕ) (r : ℕ) (e : r ≡ wrongRecord (length ws)) where
       let back : _ ≡ changes ws ts x new = stopped _ _ _ r e k in
       (ap (λ (t : Changes). t .number) back, (ap (λ (t : Changes). t .words) back, ap (λ (t : Changes). t .table) back))
 
-  module _ (f : Record → Changed) (g : Record → List ℕ) (z : r ≡ 0) (rec : Record) (m : rec ≡ recordOf ws) where
+  -- a call of a record or a head that was made of words
+  module _ {A : Type 0} (f : A → Changed) (g : A → List ℕ) (z : r ≡ 0) (made meant : A) (m : made ≡ meant) where
     pub changes-by :
         (x : Changed) (new : List ℕ)
-        → x ≡ f rec
-        → new ≡ g rec
+        → x ≡ f made
+        → new ≡ g made
         → (n : ℕ) (us : List ℕ)
         → n ≡ outcomeNumber (x .outcome)
         → us ≡ wordsOf (x .rec)
-        → Changed-to (changes ws ts (f (recordOf ws)) (g (recordOf ws))) n us new
+        → Changed-to (changes ws ts (f meant) (g meant)) n us new
     unfolding changes
     changes-by x new a b n us p q =
-        let same-x : x ≡ f (recordOf ws) = a ∙ ap f m in
-        let back : _ ≡ changes ws ts (f (recordOf ws)) (g (recordOf ws)) = behind _ _ _ r e z in (
+        let same-x : x ≡ f meant = a ∙ ap f m in
+        let back : _ ≡ changes ws ts (f meant) (g meant) = behind _ _ _ r e z in (
           p ∙ ap (λ y. outcomeNumber (y .outcome)) same-x ∙ ap (λ (t : Changes). t .number) back,
           (
             q ∙ ap (λ y. wordsOf (y .rec)) same-x ∙ ap (λ (t : Changes). t .words) back,
             b ∙ ap g m ∙ ap (λ (t : Changes). t .table) back,
           ),
         )
+
+-- an append by stamp, one law a part: its proof names no call, so that another call in its place is refused for what it answers
+module _ (ws ts : List ℕ) (stamp d n r : ℕ) (e : r ≡ wrongRecord (length ws)) (z : r ≡ 0) (rec : Record) (m : rec ≡ recordOf ws) (x : Changed) (a : x ≡ appendAnswer rec ts (stampStanding (record { 0 = stamp }) (rec .next)) d n) where
+  stamp-by :
+      (new : List ℕ)
+      → new ≡ appendTable rec ts (stampStanding (record { 0 = stamp }) (rec .next)) d n
+      → Changed-to (appendsStamp ws ts stamp d n) (outcomeNumber (x .outcome)) (wordsOf (x .rec)) new
+  unfolding appendsStamp
+  stamp-by new b =
+      changes-by ws ts r e (λ y. appendAnswer y ts (stampStanding (record { 0 = stamp }) (y .next)) d n) (λ y. appendTable y ts (stampStanding (record { 0 = stamp }) (y .next)) d n) z rec (recordOf ws) m x new a b _ _ refl refl
+
+  pub stamp-number : (k : ℕ) → k ≡ outcomeNumber (x .outcome) → k ≡ appendsStamp ws ts stamp d n .number
+  stamp-number k p = p ∙ stamp-by _ refl .0
+
+  pub stamp-words : (us : List ℕ) → us ≡ wordsOf (x .rec) → us ≡ appendsStamp ws ts stamp d n .words
+  stamp-words us p = p ∙ stamp-by _ refl .1 .0
+
+  pub stamp-table : (new : List ℕ) → new ≡ appendTable rec ts (stampStanding (record { 0 = stamp }) (rec .next)) d n → new ≡ appendsStamp ws ts stamp d n .table
+  stamp-table new b = stamp-by new b .1 .1
 
 -- ---- the calls that look
 
@@ -99,15 +121,17 @@ module _ (ws ts out : List ℕ) (r : ℕ) (e : r ≡ wrongLength (length ws) (le
       → us ≡ wordsOf (x .rec)
       → (n : ℕ)
       → n ≡ outcomeNumber (x .outcome)
-      → Read-to (readsBy ws ts out a new) n us vs (set out 0 (x .line))
+      → (os : List ℕ)
+      → os ≡ set out 0 (x .line)
+      → Read-to (readsBy ws ts out a new) n us vs os
   unfolding readsBy
-  reads-by a new z x vs b v us p n q =
+  reads-by a new z x vs b v us p n q os o =
       let back : _ ≡ readsBy ws ts out a new = behind _ _ _ r e z in
       let line : set out 0 (x .line) ≡ x .line ∷ [] = all-set out (x .line ∷ []) (second-right r (length ws) (length out) 1 e z) in (
         q ∙ ap (λ y. outcomeNumber (y .outcome)) b ∙ ap (λ (t : Reads). t .number) back,
         (
           p ∙ ap (λ y. wordsOf (y .rec)) b ∙ ap (λ (t : Reads). t .words) back,
-          (v ∙ ap (λ (t : Reads). t .table) back, line ∙ ap (λ y. y .line ∷ []) b ∙ ap (λ (t : Reads). t .out) back),
+          (v ∙ ap (λ (t : Reads). t .table) back, o ∙ line ∙ ap (λ y. y .line ∷ []) b ∙ ap (λ (t : Reads). t .out) back),
         ),
       )
 

@@ -27,14 +27,14 @@ use Rattle.answers.specs.declared.Availability.the-variants as availability
 use Rattle.answers.specs.declared.Touching.{Touching}
 use Rattle.answers.specs.declared.Touching.the-variants as touching
 use Rattle.answers.specs.Judgement.{verdictAt, verdictWhole, complete}
-use Rattle.answers.specs.Shares.{verdictPercent, hundred}
+use Rattle.answers.specs.Shares.{verdictPercent, percentNumber, hundred}
 use Rattle.answers.proofs.Completeness.{percent-at, percent-whole}
 use Rattle.file.specs.declared.WriteAnswer.{WriteAnswer}
 use Rattle.file.specs.declared.WriteAnswer.the-variants as written
 use Rattle.file.specs.Judging.{readLines, readOutcome, answeredBy, readAnswer, readTable, zeroed}
 use Rattle.file.specs.Writing.{writeAnswer, outputBy, fileFor}
 use Rattle.flonterri.specs.Words.{recordWords, recordOf, wordsOf, headWith}
-use Rattle.flonterri.specs.Tells.{Tells, percentWord, verdictTells, availabilityTells, touchingTells, writeTells}
+use Rattle.flonterri.specs.Tells.{Tells, verdictTells, availabilityTells, touchingTells, writeTells}
 use Rattle.flonterri.specs.Face.{wrongRecord, wrongLength, guarded, Changes, changes, opens, appends, appendsStamp, trims, tells, tellsVerdict, tellsWhole, tellsAvailability, tellsTouching, Reads, readsBy, reads, Writes, writesBy, writes}
 use Rattle.flonterri.proofs.Words.{words-record}
 use Rattle.flonterri.proofs.Lengths.{both-right, behind}
@@ -208,7 +208,7 @@ write-refused ws ts bytes out k = go (eqb (wrongLength (length ws) (length out) 
 
 -- ---- a complete verdict
 
-hundred-word : (p : Percent) → hundred p ≡ true → percentWord p ≡ 100
+hundred-word : (p : Percent) → hundred p ≡ true → percentNumber p ≡ 100
 hundred-word (Of n) e = eqb-true n 100 e
 hundred-word Undefined e = absurd (false≢true e)
 

@@ -6,8 +6,8 @@ use Rattle.units.specs.declared.WideTick.{WideTick}
 use Rattle.answers.specs.declared.Verdict.{Verdict}
 use Rattle.answers.specs.declared.Verdict.the-variants.{Nothing, Complete, Lacking}
 use Rattle.answers.specs.declared.Percent.{Percent}
-use Rattle.answers.specs.Shares.{verdictPercent}
-use Rattle.flonterri.specs.Tells.{Tells, percentWord, verdictTells}
+use Rattle.answers.specs.Shares.{verdictPercent, percentNumber}
+use Rattle.flonterri.specs.Tells.{Tells, verdictTells}
 
 -- an answer whose case is known
 module _ {A B : Type 0} (tell : B → List A → Tells A) (out : List A) (v w : B) (e : v ≡ w) where
@@ -15,9 +15,9 @@ module _ {A B : Type 0} (tell : B → List A → Tells A) (out : List A) (v w : 
   told-by n us p q = (p ∙ ap (λ y. tell y out .number) (sym e), q ∙ ap (λ y. tell y out .out) (sym e))
 
 -- a verdict, whose percent comes of its own
-module _ (v : Verdict) (out : List ℕ) (percent : Percent) (p : ℕ) (f : percent ≡ verdictPercent v) (g : p ≡ percentWord percent) (us : List ℕ) where
-  at : (w : Verdict) → v ≡ w → p ≡ percentWord (verdictPercent w)
-  at w e = g ∙ ap percentWord (f ∙ ap verdictPercent e)
+module _ (v : Verdict) (out : List ℕ) (percent : Percent) (p : ℕ) (f : percent ≡ verdictPercent v) (g : p ≡ percentNumber percent) (us : List ℕ) where
+  at : (w : Verdict) → v ≡ w → p ≡ percentNumber (verdictPercent w)
+  at w e = g ∙ ap percentNumber (f ∙ ap verdictPercent e)
 
   pub nothing-told : v ≡ Nothing → us ≡ 0 ∷ 0 ∷ 0 ∷ 0 ∷ p ∷ [] → (0 ≡ verdictTells v out .number) × (us ≡ verdictTells v out .out)
   unfolding verdictTells

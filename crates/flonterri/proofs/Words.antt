@@ -5,8 +5,9 @@ use Prim.Native.Nat.{ℕ, zero, suc, _+_}
 use native.Mathlib.Omega.{arith}
 use lib.ListN.{length, getD, drop, drop-of-length-le}
 use lib.Seq.{sets, sets-eq, drop-cons}
+use Rattle.window.specs.declared.Head.{Head}
 use Rattle.agreement.specs.declared.Record.{Record}
-use Rattle.flonterri.specs.Words.{recordWords, recordOf, wordsOf}
+use Rattle.flonterri.specs.Words.{recordWords, headWith, recordOf, wordsOf}
 
 pub all-set : {A : Type 0} (l vs : List A) → length l ≡ length vs → sets l 0 vs ≡ vs
 all-set l vs e =
@@ -31,6 +32,18 @@ pub record-words : (rec : Record) → recordOf (wordsOf rec) ≡ rec
 unfolding wordsOf recordOf
 record-words rec = refl
 
-pub words-many : (rec : Record) → length (wordsOf rec) ≡ recordWords
-unfolding wordsOf
-words-many rec = refl
+-- the record of 11 words, once their head is made
+abbrev recordOn : List ℕ → Head → Record
+recordOn ws h =
+    record {
+      head = h;
+      accepted = getD ws 6 0;
+      dropped = getD ws 7 0;
+      next = record { 0 = getD ws 8 0 };
+      clock = record { 0 = getD ws 9 0 };
+      used = getD ws 10 0;
+    }
+
+pub record-with : (ws : List ℕ) (h : Head) → h ≡ headWith (getD ws 0 0) (getD ws 1 0) (getD ws 2 0) (getD ws 3 0) (getD ws 4 0) (getD ws 5 0) → recordOn ws h ≡ recordOf ws
+unfolding recordOf
+record-with ws h e = ap (recordOn ws) e

@@ -7,13 +7,11 @@ use Rattle.agreement.specs.declared.refusal.Refusal.{Refusal}
 use Rattle.agreement.specs.Numbers.{refusalNumber}
 use Rattle.answers.specs.declared.Verdict.{Verdict}
 use Rattle.answers.specs.declared.Verdict.the-variants as verdict
-use Rattle.answers.specs.declared.Percent.{Percent}
-use Rattle.answers.specs.declared.Percent.the-variants.{Of, Undefined}
 use Rattle.answers.specs.declared.Availability.{Availability}
 use Rattle.answers.specs.declared.Availability.the-variants as availability
 use Rattle.answers.specs.declared.Touching.{Touching}
 use Rattle.answers.specs.declared.Touching.the-variants as touching
-use Rattle.answers.specs.Shares.{verdictPercent}
+use Rattle.answers.specs.Shares.{verdictPercent, percentNumber}
 use Rattle.file.specs.declared.WriteAnswer.{WriteAnswer}
 use Rattle.file.specs.declared.WriteAnswer.the-variants as written
 
@@ -29,16 +27,12 @@ told words = record { number = 0; out = words }
 abbrev pub silent : {A : Type 0} → List A → Refusal → Tells A
 silent out why = record { number = refusalNumber why; out = out }
 
-abbrev pub percentWord : Percent → ℕ
-percentWord (Of n) = n
-percentWord Undefined = 0
-
 -- kind (0 nothing needed, 1 complete, 2 lacking), needed, covered, lowest, percent
 unfoldable pub verdictTells : Verdict → List ℕ → Tells ℕ
 verdictTells verdict.Nothing out = told (0 ∷ 0 ∷ 0 ∷ 0 ∷ 0 ∷ [])
-verdictTells (verdict.Complete needed) out = told (1 ∷ needed ∷ needed ∷ 0 ∷ percentWord (verdictPercent (verdict.Complete needed)) ∷ [])
+verdictTells (verdict.Complete needed) out = told (1 ∷ needed ∷ needed ∷ 0 ∷ percentNumber (verdictPercent (verdict.Complete needed)) ∷ [])
 verdictTells (verdict.Lacking needed covered lowest) out =
-    told (2 ∷ needed ∷ covered ∷ lowest .0 ∷ percentWord (verdictPercent (verdict.Lacking needed covered lowest)) ∷ [])
+    told (2 ∷ needed ∷ covered ∷ lowest .0 ∷ percentNumber (verdictPercent (verdict.Lacking needed covered lowest)) ∷ [])
 verdictTells (verdict.Refused why) out = silent out why
 
 -- kind (0 never ends, 1 ends), start, end in signed grains

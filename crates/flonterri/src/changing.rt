@@ -2,15 +2,13 @@
 ghost use mathlib.Core.Path.{_≡_};
 ghost use Rattle.flonterri.specs.Face.{opens, appends, appendsStamp, trims};
 use crate::packing::give_back;
+use crate::packing::head_with;
 use crate::packing::record_of;
 use crate::packing::wrong_record;
 use units::Millis;
-use units::Number;
 use units::Stamp;
 use units::Tick;
-use units::Timescale;
 use units::WideTick;
-use window::Head;
 
 // Opens a timeline over a table.
 #[no_mangle]
@@ -33,14 +31,9 @@ pub extern "C" fn flonterri_open(
     if wrong != 0 {
         return wrong;
     }
-    let head = Head {
-        timescale: Timescale(timescale as u64),
-        offset: Tick(offset),
-        start: Millis(start),
-        duration: Millis(duration),
-        depth: Millis(depth),
-        first: Number(first_number as u64),
-    };
+    let scale = timescale as u64;
+    let first = first_number as u64;
+    let head = head_with(scale, offset, start, duration, depth, first);
     let changed = timeline::open(head, Tick(first_tick), table);
     give_back(record, changed)
 }

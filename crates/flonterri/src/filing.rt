@@ -1,12 +1,15 @@
 // The file: read whole from the caller's bytes, or written into them.
 ghost use mathlib.Core.Path.{_≡_};
-ghost use lib.ListN.{length};
+ghost use lib.ListN.{length, set};
+ghost use Rattle.keeping.specs.Keeping.{outcomeNumber};
+ghost use Rattle.flonterri.specs.Words.{wordsOf};
 ghost use Rattle.flonterri.specs.Tells.{writeTells};
 ghost use Rattle.flonterri.specs.Face.{reads, writes};
 use crate::packing::number_of;
 use crate::packing::put_record;
 use crate::packing::record_of;
 use crate::packing::wrong_length;
+use file::ReadAnswer;
 use file::WriteAnswer;
 
 const LINE_WORDS: usize = 1;
@@ -28,6 +31,20 @@ fn tell_written(out: &mut [u64], answer: WriteAnswer) -> u32
     }
 }
 
+// Inner, since record and out must have their lengths: writes back the record of a reading and its line,
+// and answers the number of its outcome.
+fn give_read(words: &mut [u64], out: &mut [u64], answer: ReadAnswer) -> u32
+    requires { ⌜ (length (now words) ≡ 11) × (length (now out) ≡ 1) ⌝ }
+    ensures { λ r. ⌜ r ≡ outcomeNumber (answer .outcome) ⌝ }
+    ensures { λ _. ⌜ now (words .exit) ≡ wordsOf (answer .rec) ⌝ }
+    ensures { λ _. ⌜ now (out .exit) ≡ set (now (out .entry)) 0 (answer .line) ⌝ }
+{
+    put_record(words, answer.rec);
+    out[0] = answer.line;
+    let outcome = answer.outcome;
+    number_of(outcome)
+}
+
 // Reads a whole file into the record and the table.
 #[no_mangle]
 pub extern "C" fn flonterri_read(
@@ -46,10 +63,7 @@ pub extern "C" fn flonterri_read(
         return wrong;
     }
     let answer = file::read(bytes, table);
-    put_record(record, answer.rec);
-    out[0] = answer.line;
-    let outcome = answer.outcome;
-    number_of(outcome)
+    give_read(record, out, answer)
 }
 
 // Writes the whole file of what record and table keep.

@@ -3,12 +3,11 @@
 ghost use mathlib.Core.Path.{_≡_};
 ghost use mathlib.Core.List.{[], _∷_};
 ghost use lib.ListN.{length};
-ghost use Rattle.flonterri.specs.Tells.{percentWord, verdictTells, availabilityTells, touchingTells};
+ghost use Rattle.flonterri.specs.Tells.{verdictTells, availabilityTells, touchingTells};
 ghost use Rattle.flonterri.specs.Face.{tellsVerdict, tellsWhole, tellsAvailability, tellsTouching};
 use crate::packing::record_of;
 use crate::packing::wrong_length;
 use answers::Availability;
-use answers::Percent;
 use answers::Touching;
 use answers::Verdict;
 use answers::spans;
@@ -23,16 +22,6 @@ const VERDICT_WORDS: usize = 5;
 const AVAILABILITY_WORDS: usize = 3;
 
 const TOUCHING_WORDS: usize = 2;
-
-// A percent as a word, 0 where there is none.
-fn percent_word(percent: Percent) -> u64
-    ensures { λ r. ⌜ r ≡ percentWord percent ⌝ }
-{
-    match percent {
-        Percent::Of(whole) => whole,
-        Percent::Undefined => 0,
-    }
-}
 
 // Inner, since there must be 5 words: writes over all of them.
 fn put_five(out: &mut [u64], kind: u64, needed: u64, covered: u64, lowest: u64, percent: u64)
@@ -71,7 +60,7 @@ fn tell_verdict(out: &mut [u64], verdict: Verdict) -> u32
     ensures { λ r. ⌜ r ≡ verdictTells verdict (now (out .entry)) .number ⌝ }
     ensures { λ _. ⌜ now (out .exit) ≡ verdictTells verdict (now (out .entry)) .out ⌝ }
 {
-    let percent = percent_word(verdict.percent());
+    let percent = verdict.percent().number();
     match verdict {
         Verdict::Nothing => put_five(out, 0, 0, 0, 0, percent),
         Verdict::Complete(needed) => put_five(out, 1, needed, needed, 0, percent),

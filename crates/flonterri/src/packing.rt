@@ -2,7 +2,7 @@
 ghost use mathlib.Core.Path.{_≡_};
 ghost use lib.ListN.{length};
 ghost use Rattle.keeping.specs.Keeping.{outcomeNumber};
-ghost use Rattle.flonterri.specs.Words.{recordOf, wordsOf};
+ghost use Rattle.flonterri.specs.Words.{headWith, recordOf, wordsOf};
 ghost use Rattle.flonterri.specs.Face.{wrongRecord, wrongLength};
 use agreement::Record;
 use agreement::Refusal;
@@ -40,19 +40,33 @@ pub(crate) fn wrong_length(words: usize, out: usize, size: usize) -> u32
     0
 }
 
+// The head of any six numbers.
+pub(crate) fn head_with(
+    timescale: u64,
+    offset: u64,
+    start: u64,
+    duration: u64,
+    depth: u64,
+    first: u64,
+) -> Head
+    ensures { λ r. ⌜ r ≡ headWith timescale offset start duration depth first ⌝ }
+{
+    Head {
+        timescale: Timescale(timescale),
+        offset: Tick(offset),
+        start: Millis(start),
+        duration: Millis(duration),
+        depth: Millis(depth),
+        first: Number(first),
+    }
+}
+
 // Inner, since there must be 11 words: the record that they mean.
 pub(crate) fn record_of(words: &[u64]) -> Record
     requires { ⌜ length (now words) ≡ 11 ⌝ }
     ensures { λ r. ⌜ r ≡ recordOf (now (words .entry)) ⌝ }
 {
-    let head = Head {
-        timescale: Timescale(words[0]),
-        offset: Tick(words[1]),
-        start: Millis(words[2]),
-        duration: Millis(words[3]),
-        depth: Millis(words[4]),
-        first: Number(words[5]),
-    };
+    let head = head_with(words[0], words[1], words[2], words[3], words[4], words[5]);
     let used = words[10];
     Record {
         head,

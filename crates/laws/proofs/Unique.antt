@@ -27,6 +27,7 @@ entries =
       verdict-whole = record { any = λ κs a. tt; one = λ κs a x y e f p q. same p q };
       percent = record { any = λ κs a. tt; one = λ κs a x y e f p q. same p q };
       verdict-percent = record { any = λ κs a. tt; one = λ κs a x y e f p q. same p q };
+      percent-number = record { any = λ κs a. tt; one = λ κs a x y e f p q. same p q };
       availability = record { any = λ κs a. tt; one = λ κs a x y e f p q. same p q };
       available-at = record { any = λ κs a. tt; one = λ κs a x y e f p q. same p q };
       touching-words = record { any = λ κs a. tt; one = λ κs a x y e f p q. same p q };

@@ -62,6 +62,7 @@ pub record Entries : Type 0 where
   pub verdict-whole : Entry answers.verdicts.verdict_whole.Kinds.ps answers.verdicts.verdict_whole.Kinds.r answers.verdicts.verdict_whole.Reads.Asked answers.verdicts.verdict_whole.Reads.Learnt
   pub percent : Entry answers.shares.percent.Kinds.ps answers.shares.percent.Kinds.r answers.shares.percent.Reads.Asked answers.shares.percent.Reads.Learnt
   pub verdict-percent : Entry answers.Verdict.percent.Kinds.ps answers.Verdict.percent.Kinds.r answers.Verdict.percent.Reads.Asked answers.Verdict.percent.Reads.Learnt
+  pub percent-number : Entry answers.Percent.number.Kinds.ps answers.Percent.number.Kinds.r answers.Percent.number.Reads.Asked answers.Percent.number.Reads.Learnt
   pub availability : Entry answers.times.availability.Kinds.ps answers.times.availability.Kinds.r answers.times.availability.Reads.Asked answers.times.availability.Reads.Learnt
   pub available-at : Entry answers.times.available_at.Kinds.ps answers.times.available_at.Kinds.r answers.times.available_at.Reads.Asked answers.times.available_at.Reads.Learnt
   pub touching-words : Entry answers.spans.touching_words.Kinds.ps answers.spans.touching_words.Kinds.r answers.spans.touching_words.Reads.Asked answers.spans.touching_words.Reads.Learnt

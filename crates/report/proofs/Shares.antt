@@ -22,9 +22,9 @@ use Rattle.answers.specs.declared.Percent.the-variants.{Of, Undefined}
 use Rattle.answers.specs.Cover.{coveredBy}
 use Rattle.answers.specs.Counts.{beyond, neededCount, coveredCount, lowestLacking}
 use Rattle.answers.specs.Judgement.{judged, verdictOf, verdictAt, verdictWhole}
-use Rattle.answers.specs.Shares.{percentOf}
+use Rattle.answers.specs.Shares.{percentOf, percentNumber}
 use Rattle.answers.proofs.Counting.{count-less}
-use Rattle.report.specs.Text.{percentNumber, PercentRight}
+use Rattle.report.specs.Text.{PercentRight}
 
 -- of no more than is needed, where some is
 shown : (c n : ℕ) → eqb n 0 ≡ false → c ≤ n → percentNumber (percentOf c n) ≡ c * 100 / n

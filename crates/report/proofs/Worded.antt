@@ -8,11 +8,11 @@ use Rattle.agreement.specs.Numbers.{refusalNumber}
 use Rattle.answers.specs.declared.Verdict.{Verdict}
 use Rattle.answers.specs.declared.Verdict.the-variants as verdict
 use Rattle.answers.specs.declared.Percent.{Percent}
-use Rattle.answers.specs.Shares.{percentOf}
+use Rattle.answers.specs.Shares.{percentOf, percentNumber}
 use Rattle.frames.specs.Worked.{bytesOf}
 use Rattle.report.specs.declared.Reply.{Reply}
 use Rattle.report.specs.declared.Reply.the-variants.{Judged, Refused}
-use Rattle.report.specs.Text.{decimal, percentNumber, shareText, refusedText, verdictText, textOf}
+use Rattle.report.specs.Text.{decimal, shareText, refusedText, verdictText, textOf}
 use Rattle.report.specs.Placing.{Put}
 use Rattle.report.proofs.Placed.{put-put}
 
@@ -21,19 +21,16 @@ put-as : (out : List ℕ) (at : ℕ) (s t after : List ℕ) (n : ℕ) → s ≡ 
 put-as out at s t after n e p = subst (λ (x : List ℕ). Put out at x after n) e p
 
 module _ (covered needed p : ℕ) (pc : Percent) (e : pc ≡ percentOf covered needed) (f : p ≡ percentNumber pc) where
-  share-is : (text : List ℕ) → (((text ++ decimal covered) ++ 47 ∷ decimal needed) ++ 32 ∷ decimal p) ++ 37 ∷ 10 ∷ [] ≡ text ++ shareText covered needed
+  share-is : (text : List ℕ) → (((text ++ decimal covered) ++ (47 ∷ decimal needed)) ++ (32 ∷ decimal p)) ++ (37 ∷ 10 ∷ []) ≡ text ++ shareText covered needed
   unfolding shareText bytesOf
   share-is text =
-      ap (λ (n : ℕ). (((text ++ decimal covered) ++ 47 ∷ decimal needed) ++ 32 ∷ decimal n) ++ 37 ∷ 10 ∷ []) (f ∙ ap percentNumber e) ∙
+      ap (λ (n : ℕ). (((text ++ decimal covered) ++ (47 ∷ decimal needed)) ++ (32 ∷ decimal n)) ++ (37 ∷ 10 ∷ [])) (f ∙ ap percentNumber e) ∙
       simp append-assoc
 
-  pub share-put : (out text out₁ out₂ out₃ out₄ : List ℕ) (at a b c d : ℕ) → Put out at (text ++ decimal covered) out₁ a → Put out₁ a (47 ∷ decimal needed) out₂ b →
-      Put out₂ b (32 ∷ decimal p) out₃ c → Put out₃ c (37 ∷ 10 ∷ []) out₄ d → Put out at (text ++ shareText covered needed) out₄ d
-  share-put out text out₁ out₂ out₃ out₄ at a b c d p₁ p₂ p₃ p₄ =
-      put-as out at _ _ out₄ d (share-is text)
-      (put-put out at _ out₃ c
-      (put-put out at _ out₂ b (put-put out at _ out₁ a p₁ _ out₂ b p₂) _ out₃ c p₃)
-      _ out₄ d p₄)
+  pub share-put : (out text out₁ out₂ out₃ : List ℕ) (at a b c : ℕ) → Put out at ((text ++ decimal covered) ++ (47 ∷ decimal needed)) out₁ a →
+      Put out₁ a (32 ∷ decimal p) out₂ b → Put out₂ b (37 ∷ 10 ∷ []) out₃ c → Put out at (text ++ shareText covered needed) out₃ c
+  share-put out text out₁ out₂ out₃ at a b c p₁ p₂ p₃ =
+      put-as out at _ _ out₃ c (share-is text) (put-put out at _ out₂ b (put-put out at _ out₁ a p₁ _ out₂ b p₂) _ out₃ c p₃)
 
 module _ (why : Refusal) (number line : ℕ) (e : number ≡ refusalNumber why) where
   refused-is : ((114 ∷ 101 ∷ 102 ∷ 117 ∷ 115 ∷ 101 ∷ 100 ∷ 32 ∷ decimal number) ++ 32 ∷ 108 ∷ 105 ∷ 110 ∷ 101 ∷ 32 ∷ decimal line) ++ 10 ∷ [] ≡ refusedText why line
@@ -46,6 +43,15 @@ module _ (why : Refusal) (number line : ℕ) (e : number ≡ refusalNumber why) 
       Put out₁ a (32 ∷ 108 ∷ 105 ∷ 110 ∷ 101 ∷ 32 ∷ decimal line) out₂ b → Put out₂ b (10 ∷ []) out₃ c → Put out 0 (refusedText why line) out₃ c
   refused-put out out₁ out₂ out₃ a b c p₁ p₂ p₃ =
       put-as out 0 _ _ out₃ c refused-is (put-put out 0 _ out₂ b (put-put out 0 _ out₁ a p₁ _ out₂ b p₂) _ out₃ c p₃)
+
+pub lacking-is : (needed covered : ℕ) (lowest : WideTick) (out out₁ after : List ℕ) (a n : ℕ) →
+    Put out 0 (108 ∷ 97 ∷ 99 ∷ 107 ∷ 105 ∷ 110 ∷ 103 ∷ 32 ∷ decimal (lowest .0)) out₁ a → Put out₁ a (32 ∷ shareText covered needed) after n →
+    Put out 0 (verdictText (verdict.Lacking needed covered lowest)) after n
+unfolding verdictText bytesOf
+lacking-is needed covered lowest out out₁ after a n p q =
+    put-as out 0 _ _ after n
+    (sym (append-assoc (108 ∷ 97 ∷ 99 ∷ 107 ∷ 105 ∷ 110 ∷ 103 ∷ 32 ∷ decimal (lowest .0)) (32 ∷ []) (shareText covered needed)))
+    (put-put out 0 _ out₁ a p _ after n q)
 
 -- ---- a verdict whose case is known
 
@@ -60,15 +66,9 @@ module _ (v : Verdict) (out : List ℕ) where
   unfolding verdictText bytesOf
   complete-put needed e after n p = put-as out 0 _ _ after n (ap verdictText (sym e)) p
 
-  pub lacking-put : (needed covered : ℕ) (lowest : WideTick) → v ≡ verdict.Lacking needed covered lowest → (out₁ after : List ℕ) (a n : ℕ) →
-      Put out 0 (108 ∷ 97 ∷ 99 ∷ 107 ∷ 105 ∷ 110 ∷ 103 ∷ 32 ∷ decimal (lowest .0)) out₁ a → Put out₁ a (32 ∷ shareText covered needed) after n →
-      Put out 0 (verdictText v) after n
-  unfolding verdictText bytesOf
-  lacking-put needed covered lowest e out₁ after a n p q =
-      put-as out 0 _ _ after n
-      (sym (append-assoc (108 ∷ 97 ∷ 99 ∷ 107 ∷ 105 ∷ 110 ∷ 103 ∷ 32 ∷ decimal (lowest .0)) (32 ∷ []) (shareText covered needed)) ∙
-      ap verdictText (sym e))
-      (put-put out 0 _ out₁ a p _ after n q)
+  pub lacking-put : (needed covered : ℕ) (lowest : WideTick) → v ≡ verdict.Lacking needed covered lowest → (after : List ℕ) (n : ℕ) →
+      Put out 0 (verdictText (verdict.Lacking needed covered lowest)) after n → Put out 0 (verdictText v) after n
+  lacking-put needed covered lowest e after n p = put-as out 0 _ _ after n (ap verdictText (sym e)) p
 
   pub verdict-refused-put : (why : Refusal) → v ≡ verdict.Refused why → (after : List ℕ) (n : ℕ) → Put out 0 (refusedText why 0) after n → Put out 0 (verdictText v) after n
   unfolding verdictText

@@ -10,9 +10,7 @@ use Rattle.agreement.specs.declared.refusal.Refusal.{Refusal}
 use Rattle.agreement.specs.Numbers.{refusalNumber}
 use Rattle.answers.specs.declared.Verdict.{Verdict}
 use Rattle.answers.specs.declared.Verdict.the-variants as verdict
-use Rattle.answers.specs.declared.Percent.{Percent}
-use Rattle.answers.specs.declared.Percent.the-variants.{Of, Undefined}
-use Rattle.answers.specs.Shares.{percentOf}
+use Rattle.answers.specs.Shares.{percentOf, percentNumber}
 use Rattle.frames.specs.Worked.{bytesOf as ascii}
 use Rattle.file.specs.Lines.{lineFeed}
 use Rattle.report.specs.declared.Reply.{Reply}
@@ -32,10 +30,6 @@ unfoldable pub decimal : ℕ → List ℕ
 decimal n = decimalBy n n
 
 -- a share that has no percent would show 0; no verdict has such a share (PercentRight, below)
-abbrev pub percentNumber : Percent → ℕ
-percentNumber (Of n) = n
-percentNumber Undefined = 0
-
 unfoldable pub shareText : ℕ → ℕ → List ℕ
 shareText covered needed =
     decimal covered ++

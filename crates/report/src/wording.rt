@@ -1,14 +1,14 @@
 // The answer's one line. The longest has four numbers of at most 20 digits, and 13 bytes besides.
-ghost use mathlib.Core.Path.{_≡_};
-ghost use mathlib.Core.List.{_++_};
+ghost use mathlib.Core.List.{_∷_, _++_};
 ghost use Prim.Native.Nat.{_+_, _≤_};
 ghost use lib.ListN.{length};
-ghost use Rattle.report.specs.Text.{decimal, percentNumber, shareText, refusedText, verdictText, textOf};
+ghost use Rattle.answers.specs.declared.Verdict.the-variants.{Lacking};
+ghost use Rattle.report.specs.Text.{decimal, shareText, refusedText, verdictText, textOf};
 ghost use Rattle.report.specs.Placing.{Put};
 use crate::Reply;
 use agreement::Refusal;
-use answers::Percent;
 use answers::Verdict;
+use units::WideTick;
 
 // Inner, since there must be room: a text from a place on. The place behind it.
 pub(crate) fn put(out: &mut [u8], at: usize, text: &[u8]) -> usize
@@ -35,13 +35,14 @@ fn put_number(out: &mut [u8], at: usize, text: &[u8], n: u64) -> usize
     put(out, next, &digits[..count])
 }
 
-fn percent_number(percent: Percent) -> u64
-    ensures { λ r. ⌜ r ≡ percentNumber percent ⌝ }
+// Inner, since there must be room: a text and two counts behind it, a slash (47) between them.
+fn put_counts(out: &mut [u8], at: usize, text: &[u8], covered: u64, needed: u64) -> usize
+    requires { ⌜ at + length (now text) + 41 ≤ length (now out) ⌝ }
+    ensures { λ r. ⌜ Put (now (out .entry)) at (now (text .entry) ++ decimal covered ++ 47 ∷ decimal needed) (now (out .exit)) r ⌝ }
+    ensures { λ r. ⌜ r ≤ at + length (now (text .entry)) + 41 ⌝ }
 {
-    match percent {
-        Percent::Of(n) => n,
-        Percent::Undefined => 0,
-    }
+    let slash = put_number(out, at, text, covered);
+    put_number(out, slash, b"/", needed)
 }
 
 // Inner, since there must be room: a text and a share behind it.
@@ -49,9 +50,8 @@ fn put_share(out: &mut [u8], at: usize, text: &[u8], covered: u64, needed: u64) 
     requires { ⌜ at + length (now text) + 64 ≤ length (now out) ⌝ }
     ensures { λ r. ⌜ Put (now (out .entry)) at (now (text .entry) ++ shareText covered needed) (now (out .exit)) r ⌝ }
 {
-    let percent = percent_number(answers::shares::percent(covered, needed));
-    let slash = put_number(out, at, text, covered);
-    let blank = put_number(out, slash, b"/", needed);
+    let percent = answers::shares::percent(covered, needed).number();
+    let blank = put_counts(out, at, text, covered, needed);
     let sign = put_number(out, blank, b" ", percent);
     put(out, sign, b"%\n")
 }
@@ -68,6 +68,15 @@ fn put_refused(out: &mut [u8], why: Refusal, line: u64) -> usize
 }
 
 // Inner, since there must be room.
+fn put_lacking(out: &mut [u8], needed: u64, covered: u64, lowest: WideTick) -> usize
+    requires { ⌜ 93 ≤ length (now out) ⌝ }
+    ensures { λ r. ⌜ Put (now (out .entry)) 0 (verdictText (Lacking needed covered lowest)) (now (out .exit)) r ⌝ }
+{
+    let blank = put_number(out, 0, b"lacking ", lowest.0);
+    put_share(out, blank, b" ", covered, needed)
+}
+
+// Inner, since there must be room.
 fn put_verdict(out: &mut [u8], verdict: Verdict) -> usize
     requires { ⌜ 93 ≤ length (now out) ⌝ }
     ensures { λ r. ⌜ Put (now (out .entry)) 0 (verdictText verdict) (now (out .exit)) r ⌝ }
@@ -75,10 +84,7 @@ fn put_verdict(out: &mut [u8], verdict: Verdict) -> usize
     match verdict {
         Verdict::Nothing => put(out, 0, b"nothing needed\n"),
         Verdict::Complete(needed) => put_share(out, 0, b"complete ", needed, needed),
-        Verdict::Lacking(needed, covered, lowest) => {
-            let blank = put_number(out, 0, b"lacking ", lowest.0);
-            put_share(out, blank, b" ", covered, needed)
-        }
+        Verdict::Lacking(needed, covered, lowest) => put_lacking(out, needed, covered, lowest),
         Verdict::Refused(why) => put_refused(out, why, 0),
     }
 }

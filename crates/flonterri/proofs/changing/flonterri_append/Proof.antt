@@ -23,7 +23,7 @@ returns-2 c =
     let test = made .before .before in
     let start = test .before .before .before .before in
     let ts = start .args .table .now in
-    changes-by (start .args .«record» .now) ts _ (test .before .wrong-record .ensures) (λ rec. appendAnswer rec ts (tickStanding (record { 0 = start .args .start }) (rec .next)) (start .args .duration) (start .args .count)) (λ rec. appendTable rec ts (tickStanding (record { 0 = start .args .start }) (rec .next)) (start .args .duration) (start .args .count)) (test .if1 .left) _ (made .record-of .ensures) _ _
+    changes-by (start .args .«record» .now) ts _ (test .before .wrong-record .ensures) (λ rec. appendAnswer rec ts (tickStanding (record { 0 = start .args .start }) (rec .next)) (start .args .duration) (start .args .count)) (λ rec. appendTable rec ts (tickStanding (record { 0 = start .args .start }) (rec .next)) (start .args .duration) (start .args .count)) (test .if1 .left) _ _ (made .record-of .ensures) _ _
     (call .append .ensures .0) (call .append .ensures .1) _ _ (gave .give-back .ensures .0) (gave .give-back .ensures .1)
 
 pub flonterri-append-spec : {M : Type 1} → statement M

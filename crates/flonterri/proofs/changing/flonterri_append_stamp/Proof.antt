@@ -1,10 +1,8 @@
 -- `flonterri_append_stamp` meets its contract: refused for the record's length, or the append's own answer.
 use borrow.Author.Needs.{needs}
-use Rattle.units.specs.Standing.{stampStanding}
-use Rattle.timeline.specs.Appending.{appendAnswer, appendTable}
 use Rattle.flonterri.specs.Face.{appendsStamp}
 use Rattle.flonterri.proofs.Lengths.{is-record}
-use Rattle.flonterri.proofs.Facing.{changes-nothing, changes-by}
+use Rattle.flonterri.proofs.Facing.{changes-nothing, stamp-number, stamp-words, stamp-table}
 use Rattle.flonterri.proofs.changing.flonterri_append_stamp.Statement.{statement}
 use Rattle.flonterri.proofs.changing.flonterri_append_stamp.Tie as tie
 
@@ -15,16 +13,12 @@ returns c =
     changes-nothing (start .args .«record» .now) (start .args .table .now) _ (c .before .wrong-record .ensures) _ _ (c .if1 .taken)
 
 returns-2 : tie.Need-returns-2
-unfolding appendsStamp
 returns-2 c =
     let gave = c .before .before in
     let call = gave .before .before .before .before in
     let made = call .before .before in
     let test = made .before .before in
-    let start = test .before .before .before .before in
-    let ts = start .args .table .now in
-    changes-by (start .args .«record» .now) ts _ (test .before .wrong-record .ensures) (λ rec. appendAnswer rec ts (stampStanding (record { 0 = start .args .stamp }) (rec .next)) (start .args .duration) (start .args .count)) (λ rec. appendTable rec ts (stampStanding (record { 0 = start .args .stamp }) (rec .next)) (start .args .duration) (start .args .count)) (test .if1 .left) _ (made .record-of .ensures) _ _
-    (call .append-stamp .ensures .0) (call .append-stamp .ensures .1) _ _ (gave .give-back .ensures .0) (gave .give-back .ensures .1)
+    (search (stamp-number, test, made, call, gave), (search (stamp-words, test, made, call, gave), search (stamp-table, test, made, call)))
 
 pub flonterri-append-stamp-spec : {M : Type 1} → statement M
 flonterri-append-stamp-spec =

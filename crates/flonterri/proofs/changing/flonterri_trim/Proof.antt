@@ -22,7 +22,7 @@ returns-2 c =
     let test = made .before .before in
     let start = test .before .before .before .before in
     let ts = start .args .table .now in
-    changes-by (start .args .«record» .now) ts _ (test .before .wrong-record .ensures) (λ rec. trimAnswer rec ts (record { 0 = start .args .clock })) (λ rec. trimTable rec ts (record { 0 = start .args .clock })) (test .if1 .left) _ (made .record-of .ensures) _ _
+    changes-by (start .args .«record» .now) ts _ (test .before .wrong-record .ensures) (λ rec. trimAnswer rec ts (record { 0 = start .args .clock })) (λ rec. trimTable rec ts (record { 0 = start .args .clock })) (test .if1 .left) _ _ (made .record-of .ensures) _ _
     (call .trim .ensures .0) (call .trim .ensures .1) _ _ (gave .give-back .ensures .0) (gave .give-back .ensures .1)
 
 pub flonterri-trim-spec : {M : Type 1} → statement M

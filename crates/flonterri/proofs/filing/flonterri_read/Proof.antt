@@ -1,8 +1,5 @@
 -- `flonterri_read` meets its contract: refused for a length, or the reading's own answer.
 use borrow.Author.Needs.{needs}
-use native.Mathlib.Omega.{arith}
-use lib.ListN.{length}
-use mathlib.Core.Path.{_≡_}
 use Rattle.flonterri.specs.Face.{reads}
 use Rattle.flonterri.proofs.Lengths.{first-right, second-right}
 use Rattle.flonterri.proofs.Facing.{reads-nothing, reads-by}
@@ -15,23 +12,20 @@ returns c =
     let a = c .before .before .before .before .before .before .args in
     reads-nothing (a .«record» .now) (a .table .now) (a .out .now) _ (c .before .wrong-length .ensures) _ _ (c .if1 .taken)
 
-slice-write-out : tie.Need-slice-write-out
-slice-write-out c =
-    let test = c .before .before .before .before .before .before .before .before in
-    let one : length (test .before .before .before .before .before .before .args .out .now) ≡ 1 =
-    second-right _ _ _ _ (test .before .wrong-length .ensures) (test .if1 .left)
-    in
-    omega arith
+give-read-requires : tie.Need-give-read-requires
+give-read-requires c κs =
+    let test = c .before .before .before .before .before .before in
+    (first-right _ _ _ _ (test .before .wrong-length .ensures) (test .if1 .left), second-right _ _ _ _ (test .before .wrong-length .ensures) (test .if1 .left))
 
 returns-2 : tie.Need-returns-2
 unfolding reads
 returns-2 c =
-    let put = c .before .before .before in
-    let call = put .before .before .before .before in
+    let gave = c .before .before .before .before in
+    let call = gave .before .before .before .before .before in
     let test = call .before .before in
     let a = test .before .before .before .before .before .before .args in
     reads-by (a .«record» .now) (a .table .now) (a .out .now) _ (test .before .wrong-length .ensures) _ _ (test .if1 .left) _ _ (call .read .ensures .0) (call .read .ensures .1) _
-    (put .put-record .ensures) _ (c .number-of .ensures)
+    (gave .give-read .ensures .1 .0) _ (gave .give-read .ensures .0) _ (gave .give-read .ensures .1 .1)
 
 pub flonterri-read-spec : {M : Type 1} → statement M
 flonterri-read-spec =
@@ -40,9 +34,7 @@ flonterri-read-spec =
     (λ c κs. search needs)
     returns
     (λ c κs. search needs)
-    (λ c κs. search (needs, first-right))
-    slice-write-out
-    (λ c κs. search needs)
+    give-read-requires
     (λ c. search needs)
     (λ c. search needs)
     (λ c. search needs)

@@ -8,28 +8,28 @@ use Rattle.flonterri.proofs.looking.tell_verdict.Tie as tie
 
 returns : tie.Need-returns
 unfolding verdictTells
-returns c = told-by verdictTells _ _ _ (c .before .before .verdict3 .given .1) _ _ (c .number .ensures) refl
+returns c = told-by verdictTells _ _ _ (c .before .before .verdict3 .given .1) _ _ (c .number2 .ensures) refl
 
 returns-2 : tie.Need-returns-2
 returns-2 c =
     let put = c .before .before in
     let told = put .before .before in
     let word = told .before .before in
-    nothing-told _ (word .before .before .before .args .out .now) _ _ (word .before .percent .ensures) (word .percent-word .ensures) _ (told .enum-told .given .1) (put .put-five .ensures)
+    nothing-told _ (word .before .before .before .args .out .now) _ _ (word .before .percent .ensures) (word .number .ensures) _ (told .enum-told .given .1) (put .put-five .ensures)
 
 returns-3 : tie.Need-returns-3
 returns-3 c =
     let put = c .before .before in
     let told = put .before .before .before in
     let word = told .before .before in
-    complete-told _ (word .before .before .before .args .out .now) _ _ (word .before .percent .ensures) (word .percent-word .ensures) _ _ (told .verdict .given .1) (put .put-five2 .ensures)
+    complete-told _ (word .before .before .before .args .out .now) _ _ (word .before .percent .ensures) (word .number .ensures) _ _ (told .verdict .given .1) (put .put-five2 .ensures)
 
 returns-4 : tie.Need-returns-4
 returns-4 c =
     let put = c .before .before in
     let told = put .before .before .before in
     let word = told .before .before in
-    lacking-told _ (word .before .before .before .args .out .now) _ _ (word .before .percent .ensures) (word .percent-word .ensures) _ _ _ _ (told .verdict2 .given .1) (put .put-five3 .ensures)
+    lacking-told _ (word .before .before .before .args .out .now) _ _ (word .before .percent .ensures) (word .number .ensures) _ _ _ _ (told .verdict2 .given .1) (put .put-five3 .ensures)
 
 pub tell-verdict-spec : {M : Type 1} → statement M
 tell-verdict-spec =
