@@ -2,19 +2,11 @@
 // the table.
 use agreement::Record;
 use keeping::Changed;
-use keeping::Outcome;
 use libc::STDOUT_FILENO;
 
 pub(crate) fn put(n: u64) {
     io::write_all(STDOUT_FILENO, b" ");
     io::print_decimal(STDOUT_FILENO, n);
-}
-
-fn number(outcome: Outcome) -> u32 {
-    match outcome {
-        Outcome::Accepted => 0,
-        Outcome::Refused(why) => why.number(),
-    }
 }
 
 fn put_record(rec: Record) {
@@ -42,7 +34,7 @@ fn put_words(words: &[u64]) {
 pub(crate) fn show(changed: Changed, table: &[u64]) {
     let rec = changed.rec;
     let outcome = changed.outcome;
-    put(number(outcome) as u64);
+    put(outcome.number() as u64);
     io::write_all(STDOUT_FILENO, b" |");
     put_record(rec);
     io::write_all(STDOUT_FILENO, b" |");

@@ -5,7 +5,6 @@ ghost use Rattle.keeping.specs.Keeping.{outcomeNumber};
 ghost use Rattle.flonterri.specs.Words.{wordsOf};
 ghost use Rattle.flonterri.specs.Tells.{writeTells};
 ghost use Rattle.flonterri.specs.Face.{reads, writes};
-use crate::packing::number_of;
 use crate::packing::put_record;
 use crate::packing::record_of;
 use crate::packing::wrong_length;
@@ -42,7 +41,7 @@ fn give_read(words: &mut [u64], out: &mut [u64], answer: ReadAnswer) -> u32
     put_record(words, answer.rec);
     out[0] = answer.line;
     let outcome = answer.outcome;
-    number_of(outcome)
+    outcome.number()
 }
 
 // Reads a whole file into the record and the table.

@@ -7,7 +7,6 @@ ghost use Rattle.flonterri.specs.Face.{wrongRecord, wrongLength};
 use agreement::Record;
 use agreement::Refusal;
 use keeping::Changed;
-use keeping::Outcome;
 use units::Millis;
 use units::Number;
 use units::Tick;
@@ -96,16 +95,6 @@ pub(crate) fn put_record(words: &mut [u64], rec: Record)
     words[10] = rec.used as u64;
 }
 
-// The paper's number of an outcome, 0 where the call is accepted.
-pub(crate) fn number_of(outcome: Outcome) -> u32
-    ensures { λ r. ⌜ r ≡ outcomeNumber outcome ⌝ }
-{
-    match outcome {
-        Outcome::Accepted => 0,
-        Outcome::Refused(why) => why.number(),
-    }
-}
-
 // Inner, since there must be 11 words: writes back the record that a call answers, and answers the
 // number of its outcome.
 pub(crate) fn give_back(words: &mut [u64], changed: Changed) -> u32
@@ -115,5 +104,5 @@ pub(crate) fn give_back(words: &mut [u64], changed: Changed) -> u32
 {
     put_record(words, changed.rec);
     let outcome = changed.outcome;
-    number_of(outcome)
+    outcome.number()
 }

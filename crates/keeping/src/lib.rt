@@ -1,6 +1,7 @@
 // What a timeline keeps: which references a clock leaves, and the append that joins. Here is what stands
 // under the calls that change and under the reader of a file.
 ghost use mathlib.Core.Path.{_≡_};
+ghost use Rattle.keeping.specs.Keeping.{outcomeNumber};
 use agreement::Record;
 use agreement::Refusal;
 
@@ -14,6 +15,18 @@ pub use spent::gone_in;
 pub enum Outcome {
     Accepted,
     Refused(Refusal),
+}
+
+impl Outcome {
+    // The paper's number, 0 where the call is accepted.
+    pub fn number(self) -> u32
+        ensures { λ r. ⌜ r ≡ outcomeNumber self ⌝ }
+    {
+        match self {
+            Outcome::Accepted => 0,
+            Outcome::Refused(why) => why.number(),
+        }
+    }
 }
 
 // The outcome, and the record to go on with: as it came where the call is refused.

@@ -52,6 +52,7 @@ entries =
       c-touching = record { any = λ κs a. tt; one = λ κs a x y e f p q. same (p .0) (q .0); words = λ κs a x y e f p q. same (p .1) (q .1) };
       c-read = record { any = λ κs a. tt; one = λ κs a x y e f p q. same (p .0) (q .0); words = λ κs a x y e f p q. triple (same (p .1 .0) (q .1 .0)) (same (p .1 .1 .0) (q .1 .1 .0)) (same (p .1 .1 .1) (q .1 .1 .1)) };
       c-write = record { any = λ κs a. tt; one = λ κs a x y e f p q. same (p .0) (q .0); words = λ κs a x y e f p q. pair (same (p .1 .0) (q .1 .0)) (same (p .1 .1) (q .1 .1)) };
+      outcome-number = record { any = λ κs a. tt; one = λ κs a x y e f p q. same p q };
       accepted = record { any = λ κs a. tt; one = λ κs a x y e f p q. same p q };
       refused = record { any = λ κs a. tt; one = λ κs a x y e f p q. same p q };
       agrees = record { any = λ κs a. tt; one = λ κs a x y e f p q. same p q };

@@ -93,6 +93,7 @@ pub record Entries : Type 0 where
   pub c-read : Lending {A = List ℕ × List ℕ × List ℕ} flonterri.flonterri_read.Kinds.ps flonterri.flonterri_read.Kinds.r flonterri.flonterri_read.Reads.Asked flonterri.flonterri_read.Reads.Learnt (λ κs e. (now (e .1 .0), now (e .1 .1 .0), now (e .1 .1 .1 .0)))
   pub c-write : Lending {A = List ℕ × List ℕ} flonterri.flonterri_write.Kinds.ps flonterri.flonterri_write.Kinds.r flonterri.flonterri_write.Reads.Asked flonterri.flonterri_write.Reads.Learnt (λ κs e. (now (e .1 .1 .0), now (e .1 .1 .1 .0)))
   -- keeping
+  pub outcome-number : Entry keeping.Outcome.number.Kinds.ps keeping.Outcome.number.Kinds.r keeping.Outcome.number.Reads.Asked keeping.Outcome.number.Reads.Learnt
   pub accepted : Entry keeping.accepted.Kinds.ps keeping.accepted.Kinds.r keeping.accepted.Reads.Asked keeping.accepted.Reads.Learnt
   pub refused : Entry keeping.refused.Kinds.ps keeping.refused.Kinds.r keeping.refused.Reads.Asked keeping.refused.Reads.Learnt
   -- agreement
