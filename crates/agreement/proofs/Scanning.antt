@@ -15,7 +15,7 @@ use Rattle.runs.specs.declared.Run.{Run}
 use Rattle.runs.specs.Words.{runAt, runsOf, runEnd, repeated, referencesOf}
 use Rattle.runs.specs.Shape.{runHeld, follows, runsShaped}
 use Rattle.runs.proofs.Opening.{run-opens, repeated-length, references-length, total}
-use Rattle.runs.proofs.Encoded.{run-facts, leads}
+use Rattle.runs.proofs.Encoded.{run-facts, leads, ref}
 use Rattle.agreement.specs.declared.Found.{Found}
 use Rattle.agreement.specs.declared.Found.the-variants.{Unshaped, Nothing, Kept}
 use Rattle.agreement.specs.Finding.{firstIn, lastIn, joins, lastOf, summary, found}
@@ -26,9 +26,6 @@ last-append : (r x : Reference) (rs xs : List Reference) → lastOf r (rs ++ x �
 unfolding lastOf
 last-append r x [] xs = refl
 last-append r x (y ∷ rs) xs = last-append y x rs xs
-
-abbrev pub ref : ℕ → ℕ → Reference
-ref s d = record { start = record { 0 = s }; span = record { 0 = d } }
 
 -- the last of some references of one duration
 pub last-repeated : (s d n : ℕ) → lastOf (ref s d) (repeated (s + d) d n) ≡ ref (s + d * n) d

@@ -1,5 +1,4 @@
 -- Laws of the answers that belong to no one function.
-pub mod Guards
 pub mod Counting
 pub mod Covering
 pub mod Cases
@@ -11,4 +10,3 @@ pub mod Offering
 pub mod Spanning
 pub mod Exact
 pub mod Completeness
-pub mod Closed

@@ -15,6 +15,7 @@ use Rattle.units.specs.declared.GrainMade.{GrainMade}
 use Rattle.units.specs.declared.GrainMade.the-variants as grain
 use Rattle.units.proofs.Signed.{Is, is-pos, is-less, is-add, is-moved, is-unique, le-is, lt-is, same-leb, same-ltb}
 use Rattle.units.proofs.Choice.{chosen, passed-over}
+use Rattle.units.proofs.Guards.{same, other}
 use Rattle.window.specs.declared.Head.{Head}
 use Rattle.window.specs.declared.Reference.{Reference}
 use Rattle.window.specs.Place.{place}
@@ -29,7 +30,6 @@ use Rattle.answers.specs.declared.Availability.{Availability}
 use Rattle.answers.specs.declared.Availability.the-variants as answer
 use Rattle.answers.specs.Available.{lasting, availableFrom, availableUpto, availabilityOf, available, numberAvailability, numberAvailable}
 use Rattle.answers.specs.Steps.{FoundWithin, Begins, Stops}
-use Rattle.answers.proofs.Guards.{same, other}
 
 -- ---- a difference that a grain holds
 

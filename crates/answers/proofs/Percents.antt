@@ -4,12 +4,12 @@ use Prim.Native.Nat.{ℕ, _+_, _-_, _*_, _/_, _≤_, _<_}
 use native.Mathlib.Nat.{div-eq-of-lt-le}
 use native.Mathlib.Omega.{arith}
 use Rattle.units.specs.declared.WideTick.{WideTick}
+use Rattle.units.proofs.Guards.{same, other, above, at-most}
 use Rattle.answers.specs.declared.Verdict.{Verdict}
 use Rattle.answers.specs.declared.Verdict.the-variants.{Complete, Lacking}
 use Rattle.answers.specs.declared.Percent.{Percent}
 use Rattle.answers.specs.declared.Percent.the-variants.{Of, Undefined}
 use Rattle.answers.specs.Shares.{percentOf, verdictPercent}
-use Rattle.answers.proofs.Guards.{same, other, above, at-most}
 
 pub record Parted (covered needed whole left i : ℕ) : Type 0 where
   pub is : covered * i ≡ whole * needed + left

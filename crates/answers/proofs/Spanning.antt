@@ -11,6 +11,7 @@ use lib.ListN.{length, take, drop, take-append-drop, drop-of-length-le}
 use mir.Syntax.{w64}
 use mir.Val.{Fits}
 use Rattle.units.specs.declared.WideTick.{WideTick}
+use Rattle.units.proofs.Guards.{same, other}
 use Rattle.runs.specs.declared.Run.{Run}
 use Rattle.runs.specs.Words.{runAt, runsOf, runEnd}
 use Rattle.runs.specs.Shape.{runHeld, runsShaped, shaped}
@@ -25,7 +26,6 @@ use Rattle.answers.specs.declared.Touching.{Touching}
 use Rattle.answers.specs.declared.Touching.the-variants.{Words, Refused}
 use Rattle.answers.specs.Spans.{touches, beforeFirst, uptoLast, touchedWords, touchingWords, partOf}
 use Rattle.answers.specs.Steps.{InTable}
-use Rattle.answers.proofs.Guards.{same, other}
 
 -- ---- one run
 

@@ -66,7 +66,7 @@ ended [] = []
 ended (l ∷ ls) = l ++ lineFeed ∷ ended ls
 
 -- lines and rest put together are the bytes
-lines-joined : (b xs : List ℕ) → ended (linesFrom b xs) ++ restFrom b xs ≡ b ++ xs
+pub lines-joined : (b xs : List ℕ) → ended (linesFrom b xs) ++ restFrom b xs ≡ b ++ xs
 unfolding linesFrom restFrom
 lines-joined b [] = sym (append-nil b)
 lines-joined b (x ∷ xs) = go (eqb x lineFeed) refl (lines-joined [] xs) (lines-joined (b ++ x ∷ []) xs)
@@ -88,12 +88,12 @@ unended-more : (b : List ℕ) (x : ℕ) → Unended b → (x ≡ lineFeed → �
 unended-more [] x u n = (n, tt)
 unended-more (y ∷ ys) x u n = (u .0, unended-more ys x (u .1) n)
 
-abbrev AllUnended : List (List ℕ) → Type 0
+abbrev pub AllUnended : List (List ℕ) → Type 0
 AllUnended [] = Unit {0}
 AllUnended (l ∷ ls) = Unended l × AllUnended ls
 
 -- no line holds a feed, and the rest none
-lines-unended : (b xs : List ℕ) → Unended b → AllUnended (linesFrom b xs) × Unended (restFrom b xs)
+pub lines-unended : (b xs : List ℕ) → Unended b → AllUnended (linesFrom b xs) × Unended (restFrom b xs)
 unfolding linesFrom restFrom
 lines-unended b [] u = (tt, u)
 lines-unended b (x ∷ xs) u = go (eqb x lineFeed) refl (lines-unended [] xs tt) (λ n. lines-unended (b ++ x ∷ []) xs (unended-more b x u n))
@@ -145,7 +145,7 @@ held-line : (x : File) (line : List ℕ) → takeLine x (take longestHeld line) 
 unfolding takeLine
 held-line x line = ap (onFrame (x .reading .stage) (x .reading) (x .words)) (held-frame line)
 
-first-more : (n : ℕ) (b ys : List ℕ) → take n (take n b ++ ys) ≡ take n (b ++ ys)
+pub first-more : (n : ℕ) (b ys : List ℕ) → take n (take n b ++ ys) ≡ take n (b ++ ys)
 first-more zero b ys = refl
 first-more (suc n) [] ys = refl
 first-more (suc n) (x ∷ b) ys = ap (λ l. x ∷ l) (first-more n b ys)

@@ -8,6 +8,7 @@ use borrow.Author.Tests.{le-leb, lt-leb, not-true, not-false}
 use lib.Dec.{eqb, leb}
 use lib.ListN.{length, take, drop, replicate, take-append-drop, length-take, length-drop}
 use lib.Seq.{take-all, take-at, drop-at, length-take-le}
+use Rattle.units.proofs.Guards.{told}
 use Rattle.window.specs.Limits.{headHeld}
 use Rattle.runs.specs.Shape.{zeros}
 use Rattle.runs.proofs.Tables.{zeros-are, are-zeros}
@@ -92,7 +93,7 @@ module _ (r : Reading) (ws : List ℕ) (a : Bool) (k : a ≡ agrees (r .rec) ws)
 
   module _ (n : not a ≡ false) where
     agreed : agrees (r .rec) ws ≡ true
-    agreed = sym k ∙ not-false a n
+    agreed = told a _ k n
 
     pub lines-none : r .lines ≡ 0 → false ≡ linesHeld r ws
     lines-none z = sym (ap₂ (λ t u. t && u && leb (sLines r) (r .rec .accepted)) agreed (lt-leb 1 (r .lines) (omega arith)))

@@ -4,10 +4,11 @@ use mathlib.Core.Bool.{Bool, true, false, cond, not}
 use mathlib.Core.List.{List, [], _∷_}
 use Prim.Native.Nat.{ℕ, zero, suc, _+_, _≤_, min}
 use native.Mathlib.Omega.{arith}
-use borrow.Author.Tests.{eq-eqb, ne-eqb, not-true}
+use borrow.Author.Tests.{eq-eqb, ne-eqb}
 use types.Run.{OneOf, miss}
 use denote.Enum.Declared.{tagOf}
 use lib.ListN.{length, replicate}
+use Rattle.units.proofs.Guards.{told, refused, allowed}
 use Rattle.agreement.specs.declared.refusal.Refusal.{Refusal}
 use Rattle.agreement.specs.declared.refusal.Refusal.the-variants.{BadLine, Disagreement}
 use Rattle.keeping.specs.declared.Outcome.{Outcome}
@@ -24,7 +25,7 @@ use Rattle.file.specs.Judging.{stopOutcome, answeredBy, zeroed}
 use Rattle.file.specs.Feeding.{longestHeld, mostLines, belongs, finishOutcome, finishAnswer, finishTable}
 use Rattle.file.proofs.Stage.{the-type}
 use Rattle.file.proofs.Sounding.{sound-few}
-use Rattle.file.proofs.Turning.{belonging, belongs-sound}
+use Rattle.file.proofs.Turning.{belongs-sound}
 
 -- ---- the outcome
 
@@ -86,32 +87,21 @@ module _ (o : Outcome) (ws : List ℕ) where
 module _ (x : Reader) (ws : List ℕ) (b : Bool) (k : b ≡ belongs x ws) where
   pub unstopped-answer : not b ≡ true → (a : ReadAnswer) → a ≡ record { outcome = outcome.Refused Disagreement; rec = zeroRecord; line = 0 } → a ≡ finishAnswer x ws
   unfolding finishAnswer
-  unstopped-answer n a e =
-      e ∙
-      sym
-      (ap (λ t. cond t (answeredBy (finishOutcome x) (x .reading)) (record { outcome = outcome.Refused Disagreement; rec = zeroRecord; line = 0 })) (sym k ∙ not-true b n))
+  unstopped-answer n a e = e ∙ refused b _ _ _ k n
 
   pub unstopped-table : not b ≡ true → ws ≡ finishTable x ws
   unfolding finishTable
-  unstopped-table n = sym (ap (λ t. cond t (wordsBy (finishOutcome x) ws (zeroed ws)) ws) (sym k ∙ not-true b n))
+  unstopped-table n = refused b _ _ _ k n
 
   module _ (n : not b ≡ false) where
     pub stop-lines : x .reading .lines ≤ mostLines
-    stop-lines = sound-few (length ws) (record { reading = x .reading; words = ws }) (belongs-sound x ws (belonging x ws b k n), refl)
+    stop-lines = sound-few (length ws) (record { reading = x .reading; words = ws }) (belongs-sound x ws (told b _ k n), refl)
 
     module _ (o : Outcome) (e : o ≡ finishOutcome x) where
       pub stopped-answer : (a : ReadAnswer) → a ≡ answeredBy o (x .reading) → a ≡ finishAnswer x ws
       unfolding finishAnswer
-      stopped-answer a j =
-          j ∙
-          ap (λ y. answeredBy y (x .reading)) e ∙
-          sym
-          (ap (λ t. cond t (answeredBy (finishOutcome x) (x .reading)) (record { outcome = outcome.Refused Disagreement; rec = zeroRecord; line = 0 }))
-          (belonging x ws b k n))
+      stopped-answer a j = allowed b _ _ _ _ k n (j ∙ ap (λ y. answeredBy y (x .reading)) e)
 
       pub stopped-table : (vs : List ℕ) → vs ≡ wordsBy o ws (zeroed ws) → vs ≡ finishTable x ws
       unfolding finishTable
-      stopped-table vs j =
-          j ∙
-          ap (λ y. wordsBy y ws (zeroed ws)) e ∙
-          sym (ap (λ t. cond t (wordsBy (finishOutcome x) ws (zeroed ws)) ws) (belonging x ws b k n))
+      stopped-table vs j = allowed b _ _ _ _ k n (j ∙ ap (λ y. wordsBy y ws (zeroed ws)) e)

@@ -1,16 +1,18 @@
 -- The turns of the loop that feeds a piece. What is left of the piece comes to the same, from where the reader is, as the whole piece from where it was.
 use mathlib.Core.Path.{_≡_, refl, sym, ap, subst⁻¹, _∙_}
-use mathlib.Core.Bool.{Bool, true, false, cond, not, _&&_, and-eq-true-iff}
+use mathlib.Core.Bool.{Bool, true, false, not, _&&_, and-eq-true-iff}
 use mathlib.Core.List.{List, [], _∷_, _++_}
 use Prim.Native.Nat.{ℕ, suc, _+_, _≤_, _<_}
 use native.Mathlib.Numerals.{add-one}
 use native.Mathlib.Omega.{arith}
-use borrow.Author.Tests.{leb-true, not-true, not-false}
+use borrow.Author.Tests.{leb-true}
 use lib.Dec.{eqb, leb}
 use lib.ListN.{length, getD, take, drop, set, replicate, length-set, drop-of-length-le}
 use lib.Seq.{take-suc-set, take-append-le, drop-cons, drop-set-lt, length-take-le}
+use Rattle.units.proofs.Guards.{told, refused, allowed}
 use Rattle.runs.specs.Shape.{zeros}
 use Rattle.runs.proofs.Tables.{are-zeros}
+use Rattle.frames.proofs.Places.{from-here}
 use Rattle.file.specs.declared.Reading.{Reading}
 use Rattle.file.specs.declared.Reader.{Reader}
 use Rattle.file.specs.Lines.{lineFeed, linesFrom, restFrom}
@@ -26,16 +28,11 @@ use Rattle.file.proofs.Sounding.{stage-is, line-sound}
 module _ (x : Reader) (ws : List ℕ) (b : Bool) (k : b ≡ belongs x ws) where
   pub unfed-reader : not b ≡ true → (piece : List ℕ) → x ≡ fedReader x ws piece
   unfolding fedReader
-  unfed-reader n piece =
-      sym (ap (λ t. cond t (holding (fedFile x ws piece .reading) (restFrom (heldPart x) piece)) x) (sym k ∙ not-true b n))
+  unfed-reader n piece = refused b _ _ _ k n
 
   pub unfed-table : not b ≡ true → (piece : List ℕ) → ws ≡ fedTable x ws piece
   unfolding fedTable
-  unfed-table n piece = sym (ap (λ t. cond t (fedFile x ws piece .words) ws) (sym k ∙ not-true b n))
-
-  module _ (n : not b ≡ false) where
-    pub belonging : belongs x ws ≡ true
-    belonging = sym k ∙ not-false b n
+  unfed-table n piece = refused b _ _ _ k n
 
 module _ (x : Reader) (ws : List ℕ) (t : belongs x ws ≡ true) where
   parts : ((leb (x .held) longestHeld && zeros (drop (x .held) (x .line))) ≡ true) × (stageHeld (x .reading .stage) (x .reading) ws ≡ true)
@@ -75,7 +72,7 @@ pub record Turned (x : Reader) (words piece table : List ℕ) (reading : Reading
 pub turn-none : (x : Reader) (ws piece : List ℕ) (b : Bool) → b ≡ belongs x ws → not b ≡ false → length (x .line) ≡ longestHeld →
     Turned x ws piece ws (x .reading) (x .line) (x .held) 0
 turn-none x ws piece b k n l =
-    let t = belonging x ws b k n in
+    let t = told b _ k n in
     record {
       within = omega arith;
       long = l;
@@ -91,13 +88,7 @@ module _ (x : Reader) (ws piece t : List ℕ) (r : Reading) (l : List ℕ) (h i 
   pub turn-part : h ≤ length l
   turn-part = omega (arith, w .long, w .short)
 
-  pub turn-count : h ≡ length (take h l)
-  turn-count = sym (length-take-le h l turn-part)
-
   module _ (there : i < length piece) where
-    next-byte : drop i piece ≡ getD piece i 0 ∷ drop (i + 1) piece
-    next-byte = drop-cons piece i 0 there ∙ ap (λ (n : ℕ). getD piece i 0 ∷ drop n piece) (sym (add-one i))
-
     pub turn-feed : getD piece i 0 ≡ lineFeed → (y : Reading) (ts : List ℕ) → length ts ≡ length t →
         _≡_ {A = File} (record { reading = y; words = ts }) (takeLine (record { reading = r; words = t }) (take h l)) →
         Turned x ws piece ts y (replicate longestHeld 0) 0 (i + 1)
@@ -116,9 +107,9 @@ module _ (x : Reader) (ws piece t : List ℕ) (r : Reading) (l : List ℕ) (h i 
               (line-sound (length t) (record { reading = r; words = t }) (take h l) (w .sound, refl) .0);
           file =
               ap (λ (f : File). takeLines f (linesFrom [] left)) k ∙
-              ap (takeLines (record { reading = r; words = t })) (sym (ap (linesFrom (take h l)) next-byte ∙ lines-ended (take h l) b left e)) ∙
+              ap (takeLines (record { reading = r; words = t })) (sym (ap (linesFrom (take h l)) (from-here piece i there) ∙ lines-ended (take h l) b left e)) ∙
               w .file;
-          rest = ap (take longestHeld) (sym (ap (restFrom (take h l)) next-byte ∙ rest-ended (take h l) b left e)) ∙ w .rest;
+          rest = ap (take longestHeld) (sym (ap (restFrom (take h l)) (from-here piece i there) ∙ rest-ended (take h l) b left e)) ∙ w .rest;
         }
 
     module _ (other : getD piece i 0 ≡ lineFeed → ⊥) where
@@ -137,11 +128,11 @@ module _ (x : Reader) (ws piece t : List ℕ) (r : Reading) (l : List ℕ) (h i 
             sound = w .sound;
             file =
                 same-lines (record { reading = r; words = t }) (take n m) (take h l ++ b ∷ []) left e ∙
-                ap (takeLines (record { reading = r; words = t })) (sym (ap (linesFrom (take h l)) next-byte ∙ lines-on (take h l) b left other)) ∙
+                ap (takeLines (record { reading = r; words = t })) (sym (ap (linesFrom (take h l)) (from-here piece i there) ∙ lines-on (take h l) b left other)) ∙
                 w .file;
             rest =
                 same-rest (take n m) (take h l ++ b ∷ []) left e ∙
-                ap (take longestHeld) (sym (ap (restFrom (take h l)) next-byte ∙ rest-on (take h l) b left other)) ∙
+                ap (take longestHeld) (sym (ap (restFrom (take h l)) (from-here piece i there) ∙ rest-on (take h l) b left other)) ∙
                 w .rest;
           }
 
@@ -158,7 +149,7 @@ module _ (x : Reader) (ws piece t : List ℕ) (r : Reading) (l : List ℕ) (h i 
       pub turn-over : longestHeld ≤ h → Turned x ws piece t r l h (i + 1)
       turn-over n =
           turn-on l h
-          (sym (take-append-le longestHeld (take h l) (getD piece i 0 ∷ []) (omega (arith, turn-count))))
+          (sym (take-append-le longestHeld (take h l) (getD piece i 0 ∷ []) (omega (arith, length-take-le h l turn-part))))
           (w .long)
           (w .short)
           (w .clear)
@@ -178,10 +169,10 @@ module _ (x : Reader) (ws piece t : List ℕ) (r : Reading) (l : List ℕ) (h i 
       pub turned-reader : _≡_ {A = Reader} (record { reading = r; line = l; held = h }) (fedReader x ws piece)
       unfolding fedReader
       turned-reader =
-          is-holding r l h (restFrom (heldPart x) piece) (w .long) (w .short) (w .clear) last-rest ∙
-          ap (λ (f : File). holding (f .reading) (restFrom (heldPart x) piece)) last-file ∙
-          sym (ap (λ u. cond u (holding (fedFile x ws piece .reading) (restFrom (heldPart x) piece)) x) (belonging x ws b k n))
+          allowed b _ _ _ _ k n
+          (is-holding r l h (restFrom (heldPart x) piece) (w .long) (w .short) (w .clear) last-rest ∙
+          ap (λ (f : File). holding (f .reading) (restFrom (heldPart x) piece)) last-file)
 
       pub turned-table : t ≡ fedTable x ws piece
       unfolding fedTable
-      turned-table = ap (λ (f : File). f .words) last-file ∙ sym (ap (λ u. cond u (fedFile x ws piece .words) ws) (belonging x ws b k n))
+      turned-table = allowed b _ _ _ _ k n (ap (λ (f : File). f .words) last-file)

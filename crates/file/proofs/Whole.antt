@@ -4,13 +4,13 @@ use mathlib.Core.Bool.{Bool, true, false, cond, not}
 use mathlib.Core.List.{List, [], _∷_, _++_, append-assoc, append-nil}
 use Prim.Native.Nat.{ℕ, _+_, _-_, _*_, _^_, _≤_, _<_}
 use native.Mathlib.Omega.{arith}
-use borrow.Author.Tests.{eq-eqb, ne-eqb, le-leb, lt-leb, not-true, not-false}
 use borrow.Rule.Slice.PartMut.{putMid}
-use lib.Dec.{eqb, leb}
+use lib.Dec.{leb}
 use lib.ListN.{length, take, drop, length-append, length-drop, length-take}
 use lib.Seq.{drop-drop}
 use mir.Syntax.{w64}
 use mir.Val.{Fits as FitsWord}
+use Rattle.units.proofs.Guards.{told, refused, allowed, at-most, above, same, other}
 use Rattle.window.specs.declared.Head.{Head}
 use Rattle.runs.specs.declared.Run.{Run}
 use Rattle.runs.specs.Words.{runsOf, keptIn}
@@ -231,51 +231,29 @@ module _ (rec : Record) (ws : List ℕ) (a : agrees rec ws ≡ true) where
 -- ---- the refusals
 
 module _ (rec : Record) (ws out : List ℕ) (t : Bool) (e : t ≡ agrees rec ws) where
-  inner : WriteAnswer
-  inner =
-      cond (eqb (rec .used) 0) (Refused NothingKept)
-      (cond (leb (length (fileFor rec ws)) (length out)) (Written (length (fileFor rec ws))) (Refused ShortOutput))
-
-  by-agrees : writeAnswer rec ws (length out) ≡ cond t inner (Refused Disagreement)
-  unfolding writeAnswer inner
-  by-agrees = ap (λ b. cond b inner (Refused Disagreement)) (sym e)
-
-  output-of : (x : WriteAnswer) → writeAnswer rec ws (length out) ≡ x → (y : List ℕ) → y ≡ outputBy x (fileFor rec ws) out →
+  output-of : (x : WriteAnswer) → x ≡ writeAnswer rec ws (length out) → (y : List ℕ) → y ≡ outputBy x (fileFor rec ws) out →
       (x ≡ writeAnswer rec ws (length out)) × (y ≡ outputBy (writeAnswer rec ws (length out)) (fileFor rec ws) out)
-  output-of x k y j = (sym k, j ∙ ap (λ z. outputBy z (fileFor rec ws) out) (sym k))
+  output-of x k y j = (k, j ∙ ap (λ z. outputBy z (fileFor rec ws) out) k)
 
   pub write-disagrees : not t ≡ true →
       (Refused Disagreement ≡ writeAnswer rec ws (length out)) × (out ≡ outputBy (writeAnswer rec ws (length out)) (fileFor rec ws) out)
-  unfolding outputBy
-  write-disagrees m = output-of (Refused Disagreement) (by-agrees ∙ ap (λ b. cond b inner (Refused Disagreement)) (not-true t m)) out refl
+  unfolding writeAnswer outputBy
+  write-disagrees m = output-of (Refused Disagreement) (refused t _ _ _ e m) out refl
 
   module _ (m : not t ≡ false) where
     write-agrees : agrees rec ws ≡ true
-    write-agrees = sym e ∙ not-false t m
-
-    agreed : writeAnswer rec ws (length out) ≡ inner
-    agreed = by-agrees ∙ ap (λ b. cond b inner (Refused Disagreement)) (not-false t m)
+    write-agrees = told t _ e m
 
     pub write-nothing : rec .used ≡ 0 →
         (Refused NothingKept ≡ writeAnswer rec ws (length out)) × (out ≡ outputBy (writeAnswer rec ws (length out)) (fileFor rec ws) out)
-    unfolding outputBy inner
-    write-nothing z =
-        output-of (Refused NothingKept)
-        (agreed ∙
-        ap
-        (λ b. cond b (Refused NothingKept) (cond (leb (length (fileFor rec ws)) (length out)) (Written (length (fileFor rec ws))) (Refused ShortOutput)))
-        (eq-eqb (rec .used) 0 z))
-        out
-        refl
+    unfolding writeAnswer outputBy
+    write-nothing z = output-of (Refused NothingKept) (allowed t _ _ _ _ e m (same _ _ _ _ z)) out refl
 
     module _ (some : rec .used ≡ 0 → ⊥) where
-      kept-some : writeAnswer rec ws (length out) ≡ cond (leb (length (fileFor rec ws)) (length out)) (Written (length (fileFor rec ws))) (Refused ShortOutput)
-      unfolding inner
-      kept-some =
-          agreed ∙
-          ap
-          (λ b. cond b (Refused NothingKept) (cond (leb (length (fileFor rec ws)) (length out)) (Written (length (fileFor rec ws))) (Refused ShortOutput)))
-          (ne-eqb (rec .used) 0 some)
+      kept-some : (x : WriteAnswer) → x ≡ cond (leb (length (fileFor rec ws)) (length out)) (Written (length (fileFor rec ws))) (Refused ShortOutput) →
+          x ≡ writeAnswer rec ws (length out)
+      unfolding writeAnswer
+      kept-some x k = allowed t _ _ _ _ e m (other _ _ _ _ _ some k)
 
       few-runs : rec .used ≤ 2 ^ 31
       few-runs = used-few rec ws write-agrees
@@ -290,12 +268,8 @@ module _ (rec : Record) (ws out : List ℕ) (t : Bool) (e : t ≡ agrees rec ws)
           (Refused ShortOutput ≡ writeAnswer rec ws (length out)) × (out ≡ outputBy (writeAnswer rec ws (length out)) (fileFor rec ws) out)
       unfolding outputBy
       write-short l =
-          output-of (Refused ShortOutput)
-          (kept-some ∙
-          ap (λ b. cond b (Written (length (fileFor rec ws))) (Refused ShortOutput))
-          (lt-leb (length (fileFor rec ws)) (length out) (omega (arith, file-length rec ws write-agrees))))
-          out
-          refl
+          let over : length out < length (fileFor rec ws) = omega (arith, file-length rec ws write-agrees) in
+          output-of (Refused ShortOutput) (kept-some _ (above _ _ _ _ over)) out refl
 
       module _ (l : 94 + 35 * rec .used ≤ length out) where
         pub write-asks : (agrees rec ws ≡ true) × (length (fileFor rec ws) ≤ length out)
@@ -304,10 +278,4 @@ module _ (rec : Record) (ws out : List ℕ) (t : Bool) (e : t ≡ agrees rec ws)
         pub write-whole : (n : ℕ) (y : List ℕ) → (n ≡ length (fileFor rec ws)) × (y ≡ fileFor rec ws ++ drop n out) →
             (Written n ≡ writeAnswer rec ws (length out)) × (y ≡ outputBy (writeAnswer rec ws (length out)) (fileFor rec ws) out)
         unfolding outputBy
-        write-whole n y k =
-            output-of (Written n)
-            (kept-some ∙
-            ap (λ b. cond b (Written (length (fileFor rec ws))) (Refused ShortOutput)) (le-leb (length (fileFor rec ws)) (length out) (write-asks .1)) ∙
-            ap Written (sym (k .0)))
-            y
-            (k .1)
+        write-whole n y k = output-of (Written n) (kept-some _ (at-most _ _ _ _ _ (write-asks .1) (ap Written (k .0)))) y (k .1)

@@ -5,7 +5,7 @@ use Prim.Native.Nat.{ℕ, suc}
 use native.Mathlib.Omega.{arith}
 use borrow.Author.Tests.{eqb-true}
 use lib.Dec.{eqb}
-use Rattle.answers.proofs.Guards.{same, other}
+use Rattle.units.proofs.Guards.{same, other}
 use Rattle.flonterri.specs.Words.{recordWords}
 use Rattle.flonterri.specs.Face.{wrongRecord, wrongLength, guarded}
 

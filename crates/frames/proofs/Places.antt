@@ -1,5 +1,4 @@
 -- Where a loop over a row of widths stands: before field i, with the digits of the fields before it passed.
---
 use mathlib.Core.Path.{_≡_}
 use mathlib.Core.List.{List, _∷_}
 use Prim.Native.Nat.{ℕ, _+_, _*_, _^_, _≤_, _<_}

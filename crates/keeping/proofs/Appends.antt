@@ -3,32 +3,33 @@ use mathlib.Core.Path.{_≡_, sym, ap, ap₂, subst, subst⁻¹, _∙_}
 use mathlib.Core.Bool.{Bool, true, false, cond, not, and-eq-true-iff}
 use mathlib.Core.List.{List}
 use Prim.Native.Nat.{ℕ, suc, _+_, _-_, _*_, _/_, _^_, _≤_}
-use native.Mathlib.Nat.{mul-le-mul-left}
+use native.Mathlib.Nat.{mul-le-mul-left, sub-le}
 use native.Mathlib.Omega.{arith}
-use borrow.Author.Tests.{leb-true, le-leb, not-true, not-false}
-use lib.Dec.{leb, ltb}
+use borrow.Author.Tests.{leb-true, le-leb}
+use lib.Dec.{leb}
 use lib.ListN.{length, drop}
 use mir.Syntax.{w64}
 use mir.Val.{Fits}
 use Rattle.units.specs.declared.Span.{Span}
-use Rattle.units.specs.Limits.{largestTick, largestSpan, largestMillis, largestNumber}
+use Rattle.units.specs.Limits.{largestTick, largestMillis, largestNumber}
+use Rattle.units.proofs.Guards.{told, refused}
 use Rattle.window.specs.declared.Head.{Head}
 use Rattle.window.specs.declared.Passed.{Passed}
 use Rattle.window.specs.Limits.{Held}
 use Rattle.window.specs.Place.{beforeEnd}
 use Rattle.window.specs.Ticks.{EndsPassed}
 use Rattle.runs.specs.Words.{repeated, capacity}
-use Rattle.runs.specs.Shape.{shaped}
 use Rattle.runs.specs.Encoding.{runsFor, canonical}
-use Rattle.runs.specs.Steps.{needsRun, keptWith, Storable}
+use Rattle.runs.specs.Steps.{keptWith, Storable}
 use Rattle.runs.proofs.Opening.{repeated-length}
+use Rattle.runs.proofs.Encoded.{span-limits, ref}
 use Rattle.runs.proofs.Joins.{repeated-join}
 use Rattle.runs.proofs.Tables.{used-fits, canonical-is}
 use Rattle.agreement.specs.declared.Record.{Record}
 use Rattle.agreement.specs.declared.refusal.Refusal.the-variants as refusal
 use Rattle.agreement.specs.Agreement.{kept, every}
 use Rattle.agreement.proofs.Runs.{ends-by}
-use Rattle.agreement.proofs.Scanning.{ref, last-repeated}
+use Rattle.agreement.proofs.Scanning.{last-repeated}
 use Rattle.agreement.proofs.Judging.{all-begun, begun}
 use Rattle.agreement.proofs.Agreeing.{Agreeing, agreeing}
 use Rattle.keeping.specs.declared.Outcome.the-variants.{Accepted, Refused}
@@ -52,29 +53,11 @@ begin-last h s d n l =
     ap (λ r. beforeEnd h (r .start .0)) (last-repeated s d (n - 1))
 
 module _ (rec : Record) (d n : ℕ) (h : Held (rec .head) × (1 ≤ n) × (rec .next .0 + d * n ≤ largestTick)) where
-  before-last : d * (n - 1) ≤ d * n
-  before-last = mul-le-mul-left d (omega arith)
-
-  pub begin-product : Fits w64 (d * (n - 1))
-  begin-product = record { fits = omega (arith, before-last, h .2) }
-
-  pub begin-sum : Fits w64 (rec .next .0 + d * (n - 1))
-  begin-sum = record { fits = omega (arith, before-last, h .2) }
-
   pub begin-asks : Held (rec .head) × (rec .next .0 + d * (n - 1) ≤ largestTick)
-  begin-asks = (h .0, omega (arith, before-last, h .2))
+  begin-asks = (h .0, omega (arith, mul-le-mul-left d (sub-le n 1), h .2))
 
   pub begin-is : (b : Bool) → b ≡ beforeEnd (rec .head) (rec .next .0 + d * (n - 1)) → b ≡ every (λ r. beforeEnd (rec .head) (r .start .0)) (given rec d n)
   begin-is b e = e ∙ sym (begin-last (rec .head) (rec .next .0) d n (h .1))
-
--- ---- room
-
-module _ (used : ℕ) (ws : List ℕ) (d : ℕ) (t : Bool) (e : t ≡ needsRun used ws d) where
-  pub room-there : not t ≡ true → true ≡ roomFor used ws d
-  room-there n = sym (ap (λ b. cond b (ltb used (capacity ws)) true) (sym e ∙ not-true t n))
-
-  pub room-if : not t ≡ false → ltb used (length ws / 3) ≡ roomFor used ws d
-  room-if n = sym (ap (λ b. cond b (ltb used (capacity ws)) true) (sym e ∙ not-false t n))
 
 -- ---- the step
 
@@ -85,11 +68,8 @@ module _ (rec : Record) (ws : List ℕ) (span : Span) (n : ℕ) (fit : Fitting r
   pub keep-asks : Held (rec .head) × (rec .clock .0 ≤ largestMillis)
   keep-asks = (facts .held .head, facts .held .clock)
 
-  pub keep-shaped : shaped (rec .used) ws ≡ true
-  keep-shaped = facts .table
-
   pub keep-lasts : 1 ≤ span .0
-  keep-lasts = leb-true 1 (span .0) (and-eq-true-iff (leb 1 (span .0)) (leb (span .0) largestSpan) .0 (fit .held) .0)
+  keep-lasts = span-limits span (fit .held) .0
 
   pub keep-counts : rec .accepted + n ≤ 2 ^ 31
   keep-counts =
@@ -168,11 +148,11 @@ module _ (rec : Record) (ws : List ℕ) (span : Span) (n : ℕ) (fit : Fitting r
       module _ (t : Bool) (e : t ≡ roomFor (rec .used) ws (span .0)) where
         pub store-full : not t ≡ true → roomOutcome rec ws (span .0) n ≡ Refused refusal.NoRunLeft
         unfolding roomOutcome
-        store-full m = ap (λ b. cond b Accepted (Refused refusal.NoRunLeft)) (is-room ∙ sym e ∙ not-true t m)
+        store-full m = sym (refused t _ _ _ (e ∙ sym is-room) m)
 
         module _ (m : not t ≡ false) where
           has-room : leb (runsFor (leftOf rec ws (span .0) n)) (capacity ws) ≡ true
-          has-room = is-room ∙ sym e ∙ not-false t m
+          has-room = told t _ (e ∙ sym is-room) m
 
           pub store-accepted : roomOutcome rec ws (span .0) n ≡ Accepted
           unfolding roomOutcome

@@ -1,16 +1,17 @@
 -- The refusals of an append that joins, in their order, as the code meets them.
-use mathlib.Core.Path.{_≡_, sym, ap, ap₂, _∙_}
-use mathlib.Core.Bool.{Bool, true, false, cond, not}
+use mathlib.Core.Path.{_≡_, refl, sym}
+use mathlib.Core.Bool.{Bool, true, false, not}
 use mathlib.Core.List.{List}
 use Prim.Native.Nat.{ℕ, _+_, _*_, _≤_}
 use native.Mathlib.Nat.{mul-le-mul-right, one-mul}
 use native.Mathlib.Omega.{arith}
-use borrow.Author.Tests.{leb-true, not-true, not-false}
+use borrow.Author.Tests.{leb-true}
 use lib.Dec.{leb}
 use mir.Syntax.{w64}
 use mir.Val.{Fits}
 use Rattle.units.specs.declared.Span.{Span}
 use Rattle.units.specs.Limits.{largestTick, spanHeld}
+use Rattle.units.proofs.Guards.{told, refused, allowed}
 use Rattle.window.specs.Limits.{Held}
 use Rattle.window.specs.Place.{beforeEnd}
 use Rattle.runs.proofs.Encoded.{span-limits}
@@ -28,23 +29,14 @@ module _ (rec : Record) (ws : List ℕ) (span : Span) (n : ℕ) (h : (agrees rec
   pub ends-asks : (rec .next .0 ≤ largestTick) × (1 ≤ span .0)
   ends-asks = (agreeing rec ws (h .0) .held .next, lasts)
 
-  begins : Bool
-  begins = every (λ r. beforeEnd (rec .head) (r .start .0)) (given rec (span .0) n)
-
-  counts : Bool
-  counts = countsHeld (rec .head .first .0) (rec .accepted + n)
-
   module _ (x : Bool) (e : x ≡ leb (rec .next .0 + span .0 * n) largestTick) where
-    by-ends : fitOutcome rec ws (span .0) n ≡ cond x (cond counts (cond begins (roomOutcome rec ws (span .0) n) (Refused refusal.PastEnd)) (Refused refusal.CountLimit)) (Refused refusal.TickLimit)
-    unfolding fitOutcome begins counts
-    by-ends = ap (λ t. cond t (cond counts (cond begins (roomOutcome rec ws (span .0) n) (Refused refusal.PastEnd)) (Refused refusal.CountLimit)) (Refused refusal.TickLimit)) (sym e)
-
     pub ends-over : not x ≡ true → fitOutcome rec ws (span .0) n ≡ Refused refusal.TickLimit
-    ends-over m = by-ends ∙ ap (λ t. cond t (cond counts (cond begins (roomOutcome rec ws (span .0) n) (Refused refusal.PastEnd)) (Refused refusal.CountLimit)) (Refused refusal.TickLimit)) (not-true x m)
+    unfolding fitOutcome
+    ends-over m = sym (refused x _ _ _ e m)
 
     module _ (m : not x ≡ false) where
       ends : rec .next .0 + span .0 * n ≤ largestTick
-      ends = leb-true (rec .next .0 + span .0 * n) largestTick (sym e ∙ not-false x m)
+      ends = leb-true (rec .next .0 + span .0 * n) largestTick (told x _ e m)
 
       pub counts-fit : Fits w64 (rec .accepted + n)
       counts-fit =
@@ -55,24 +47,19 @@ module _ (rec : Record) (ws : List ℕ) (span : Span) (n : ℕ) (h : (agrees rec
       begins-asks = (agreeing rec ws (h .0) .held .head, h .2, ends)
 
       module _ (y : Bool) (f : y ≡ countsHeld (rec .head .first .0) (rec .accepted + n)) where
-        by-counts : fitOutcome rec ws (span .0) n ≡ cond y (cond begins (roomOutcome rec ws (span .0) n) (Refused refusal.PastEnd)) (Refused refusal.CountLimit)
-        unfolding counts
-        by-counts = by-ends ∙ ap₂ (λ t u. cond t (cond u (cond begins (roomOutcome rec ws (span .0) n) (Refused refusal.PastEnd)) (Refused refusal.CountLimit)) (Refused refusal.TickLimit)) (not-false x m) (sym f)
-
         pub counts-over : not y ≡ true → fitOutcome rec ws (span .0) n ≡ Refused refusal.CountLimit
-        counts-over k = by-counts ∙ ap (λ t. cond t (cond begins (roomOutcome rec ws (span .0) n) (Refused refusal.PastEnd)) (Refused refusal.CountLimit)) (not-true y k)
+        unfolding fitOutcome
+        counts-over k = sym (allowed x _ _ _ _ e m (refused y _ _ _ f k))
 
         module _ (k : not y ≡ false) where
           pub fitting : Fitting rec ws span n
-          fitting = record { agreed = h .0; held = h .1; some = h .2; ends = ends; counts = sym f ∙ not-false y k }
+          fitting = record { agreed = h .0; held = h .1; some = h .2; ends = ends; counts = told y _ f k }
 
           module _ (z : Bool) (g : z ≡ every (λ r. beforeEnd (rec .head) (r .start .0)) (given rec (span .0) n)) where
-            by-begins : fitOutcome rec ws (span .0) n ≡ cond z (roomOutcome rec ws (span .0) n) (Refused refusal.PastEnd)
-            unfolding begins
-            by-begins = by-counts ∙ ap₂ (λ t u. cond t (cond u (roomOutcome rec ws (span .0) n) (Refused refusal.PastEnd)) (Refused refusal.CountLimit)) (not-false y k) (sym g)
-
             pub begins-past : not z ≡ true → fitOutcome rec ws (span .0) n ≡ Refused refusal.PastEnd
-            begins-past i = by-begins ∙ ap (λ t. cond t (roomOutcome rec ws (span .0) n) (Refused refusal.PastEnd)) (not-true z i)
+            unfolding fitOutcome
+            begins-past i = sym (allowed x _ _ _ _ e m (allowed y _ _ _ _ f k (refused z _ _ _ g i)))
 
             pub begins-before : not z ≡ false → fitOutcome rec ws (span .0) n ≡ roomOutcome rec ws (span .0) n
-            begins-before i = by-begins ∙ ap (λ t. cond t (roomOutcome rec ws (span .0) n) (Refused refusal.PastEnd)) (not-false z i)
+            unfolding fitOutcome
+            begins-before i = sym (allowed x _ _ _ _ e m (allowed y _ _ _ _ f k (allowed z _ _ _ _ g i refl)))

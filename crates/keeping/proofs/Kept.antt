@@ -16,12 +16,11 @@ use Rattle.runs.specs.Words.{capacity}
 use Rattle.runs.specs.Encoding.{runsFor, canonical}
 use Rattle.runs.specs.Joining.{lastEnd, Within}
 use Rattle.runs.proofs.Opening.{repeated-length}
-use Rattle.runs.proofs.Encoded.{span-limits}
+use Rattle.runs.proofs.Encoded.{span-limits, runs-drop}
 use Rattle.runs.proofs.Tables.{canonical-kept, canonical-shaped}
-use Rattle.runs.proofs.Joins.{kept-join, kept-within, join-append, each-append, repeated-join, repeated-within, repeated-end, end-append}
+use Rattle.runs.proofs.Joins.{kept-join, kept-within, join-append, each-append, join-drop, each-drop, repeated-join, repeated-within, repeated-end, end-append}
 use Rattle.agreement.specs.declared.Record.{Record}
 use Rattle.agreement.specs.Agreement.{kept, every, recordHeld, keptRight, agrees}
-use Rattle.runs.proofs.Keeping.{join-drop, each-drop, runs-drop}
 use Rattle.agreement.proofs.Judging.{record-facts, record-held}
 use Rattle.agreement.proofs.Agreeing.{Agreeing, agreeing, agrees-from}
 use Rattle.keeping.specs.Joined.{Fitting, given, allOf, leftOf, counting, appended}

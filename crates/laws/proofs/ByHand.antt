@@ -16,7 +16,7 @@ use Rattle.window.specs.Window.{lowEdge, highEdge, windowAt, wholePeriod}
 use Rattle.window.specs.Ticks.{named, NeededTicks}
 use Rattle.window.specs.declared.Needed.{Needed}
 use Rattle.window.specs.declared.Needed.the-variants as needed
-use Rattle.window.proofs.Division.{ticks-needed}
+use Rattle.window.proofs.Division.{ticks-needed, window-ticks, window-none, period-ticks}
 use Rattle.runs.specs.Words.{runsOf, wordsOf, repeated, referencesOf}
 use Rattle.runs.specs.Shape.{runsShaped, zeros}
 use Rattle.runs.specs.Joining.{lastEnd}
@@ -39,7 +39,6 @@ use Rattle.answers.specs.Shares.{verdictPercent}
 use Rattle.answers.specs.Ranges.{inRange, verdictBy, pastNamed}
 use Rattle.answers.proofs.Agreed.{first-reach, agreed-verdict}
 use Rattle.answers.proofs.Judging.{all-covered, first-lacking, end-lacking, judge-nothing}
-use Rattle.answers.proofs.Closed.{window-ticks, window-none, period-ticks}
 use Rattle.hex.specs.Digits as hex
 use Rattle.frames.specs.Fields as fields
 use Rattle.frames.specs.Frames as frames

@@ -21,8 +21,8 @@ use Rattle.runs.specs.Words as Words
 use Rattle.runs.specs.Encoding.{encode, tableOf, runsFor, canonical}
 use Rattle.runs.specs.Joining.{lastEnd}
 use Rattle.runs.proofs.Opening.{repeated-length}
-use Rattle.runs.proofs.Joins.{join-append, each-append, repeated-join, repeated-end, end-append}
-use Rattle.runs.proofs.Keeping.{join-drop, runs-drop}
+use Rattle.runs.proofs.Encoded.{runs-drop}
+use Rattle.runs.proofs.Joins.{join-append, each-append, join-drop, repeated-join, repeated-end, end-append}
 use Rattle.runs.proofs.Tables.{canonical-kept, canonical-length, used-fits}
 use Rattle.agreement.specs.declared.Record.{Record}
 use Rattle.agreement.specs.declared.refusal.Refusal.{Refusal}

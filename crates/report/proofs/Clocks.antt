@@ -12,8 +12,8 @@ use lib.ListN.{length, take, length-take}
 use lib.Seq.{take-all}
 use Rattle.units.specs.declared.Millis.{Millis}
 use Rattle.units.specs.Limits.{millisHeld}
+use Rattle.units.proofs.Guards.{refused, allowed, same, other}
 use Rattle.agreement.specs.declared.refusal.Refusal.the-variants.{ClockLimit, BadLine}
-use Rattle.answers.proofs.Guards.{refused, allowed, same, other}
 use Rattle.frames.specs.declared.Frame.{Frame}
 use Rattle.frames.specs.declared.Frame.the-variants as frame
 use Rattle.frames.specs.Frames.{frameOf}

@@ -1,14 +1,13 @@
 -- Bytes cut at the first line feed: where the feed stands, and how pieces are cut that come one behind the other.
-use mathlib.Core.Path.{_≡_, refl, sym, ap, _∙_}
+use mathlib.Core.Path.{_≡_, refl, ap, _∙_}
 use mathlib.Core.Bool.{Bool, true, false, cond, true≢false, false≢true}
 use mathlib.Core.List.{List, [], _∷_, _++_}
 use Prim.Native.Nat.{ℕ, suc, _+_, _≤_, _<_}
-use native.Mathlib.Numerals.{add-one}
 use native.Mathlib.Omega.{arith}
 use borrow.Author.Tests.{eq-eqb, ne-eqb}
 use lib.Dec.{eqb}
 use lib.ListN.{length, getD, take, drop, drop-of-length-le}
-use lib.Seq.{drop-cons}
+use Rattle.frames.proofs.Places.{from-here}
 use Rattle.file.specs.Lines.{lineFeed}
 use Rattle.report.specs.Input.{hasFeed, firstLine, behindFirst}
 
@@ -23,14 +22,11 @@ module _ (bytes : List ℕ) where
   sought-none = record { within = omega arith; left = omega arith }
 
   module _ (i : ℕ) (w : Sought bytes i) where
-    here : i < length bytes → drop i bytes ≡ getD bytes i 0 ∷ drop (i + 1) bytes
-    here l = drop-cons bytes i 0 l ∙ ap (λ (n : ℕ). getD bytes i 0 ∷ drop n bytes) (sym (add-one i))
-
     pub sought-found : i < length bytes → getD bytes i 0 ≡ lineFeed → i ≡ length (firstLine bytes)
     unfolding firstLine
     sought-found l e =
         let none : length (firstLine (drop i bytes)) ≡ 0 =
-        ap (λ bs. length (firstLine bs)) (here l) ∙
+        ap (λ bs. length (firstLine bs)) (from-here bytes i l) ∙
         ap (λ t. length (cond t [] (getD bytes i 0 ∷ firstLine (drop (i + 1) bytes)))) (eq-eqb (getD bytes i 0) lineFeed e)
         in
         omega (arith, w .left)
@@ -39,7 +35,7 @@ module _ (bytes : List ℕ) where
     unfolding firstLine
     sought-more l n =
         let more : length (firstLine (drop i bytes)) ≡ 1 + length (firstLine (drop (i + 1) bytes)) =
-        ap (λ bs. length (firstLine bs)) (here l) ∙
+        ap (λ bs. length (firstLine bs)) (from-here bytes i l) ∙
         ap (λ t. length (cond t [] (getD bytes i 0 ∷ firstLine (drop (i + 1) bytes)))) (ne-eqb (getD bytes i 0) lineFeed n) ∙
         omega arith
         in
@@ -129,15 +125,6 @@ unfed-behind (x ∷ xs) ys h = go (eqb x lineFeed) h (unfed-behind xs ys)
   where
     go : (t : Bool) → cond t true (hasFeed xs) ≡ false → (hasFeed xs ≡ false → behindFirst (xs ++ ys) ≡ behindFirst ys) →
         cond t (xs ++ ys) (behindFirst (xs ++ ys)) ≡ behindFirst ys
-    go true k e = absurd (true≢false k)
-    go false k e = e k
-
-pub unfed-none : (xs : List ℕ) → hasFeed xs ≡ false → behindFirst xs ≡ []
-unfolding hasFeed behindFirst
-unfed-none [] h = refl
-unfed-none (x ∷ xs) h = go (eqb x lineFeed) h (unfed-none xs)
-  where
-    go : (t : Bool) → cond t true (hasFeed xs) ≡ false → (hasFeed xs ≡ false → behindFirst xs ≡ []) → cond t xs (behindFirst xs) ≡ []
     go true k e = absurd (true≢false k)
     go false k e = e k
 

@@ -54,9 +54,6 @@ module _ (d : Desk) (long : length (d .line) ≡ 19) (h : ℕ) (e : h ≡ min (d
   pub held-fits : h ≤ length (d .line)
   held-fits = omega arith
 
-  pub held-count : h ≡ length (take h (d .line))
-  held-count = sym part-long
-
   module _ (part : List ℕ) (n : ℕ) (f : n ≡ min (length part) (19 - h)) where
     pub more-part : n ≡ length (take n part)
     more-part = sym (length-take-le n part (omega arith))
@@ -123,9 +120,6 @@ module _ (d : Desk) (ws piece : List ℕ) (end : ℕ) (e : end ≡ length (first
 
   pub end-within : end ≤ length piece
   end-within = omega (arith, line-within piece)
-
-  pub end-part : end ≡ length (take end piece)
-  end-part = sym (length-take-le end piece end-within)
 
   module _ (h : Desk) (k : h ≡ holding d (take end piece)) where
     pub heard-some : end ≡ length piece → record { desk = h; words = ws } ≡ hearOn d ws piece

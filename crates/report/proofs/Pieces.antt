@@ -2,7 +2,7 @@
 use mathlib.Core.Path.{_≡_, refl, sym, ap, ap₂, _∙_}
 use mathlib.Core.Bool.{Bool, true, false, cond}
 use mathlib.Core.List.{List, [], _∷_, _++_, append-assoc, append-nil}
-use Prim.Native.Nat.{ℕ, zero, suc, _+_, _-_, _≤_}
+use Prim.Native.Nat.{ℕ, _+_, _-_, _≤_}
 use native.Mathlib.Omega.{arith}
 use lib.ListN.{length, take, drop, replicate, length-append, length-take, length-replicate}
 use lib.Seq.{take-at, drop-append-add, drop-drop}
@@ -10,6 +10,7 @@ use Rattle.file.specs.declared.Reader.{Reader}
 use Rattle.file.specs.declared.ReadAnswer.{ReadAnswer}
 use Rattle.file.specs.Judging.{readAnswer, readTable}
 use Rattle.file.specs.Feeding.{begunReader, fedReader, fedTable, readerAfter, tableAfter}
+use Rattle.file.proofs.Cutting.{first-more}
 use Rattle.file.proofs.Pieces.{fed-begun-reader, fed-begun-table, fed-on-reader, fed-on-table, fed-finish-answer, fed-finish-table}
 use Rattle.report.specs.declared.Asked.{Asked}
 use Rattle.report.specs.declared.Asked.the-variants.{Unheard, At, Whole, Refused}
@@ -68,11 +69,6 @@ read-first (Refused why) line came piece = refl
 
 -- ---- the clock line goes on
 
-take-front : (n : ℕ) (xs ys : List ℕ) → take n (take n xs ++ ys) ≡ take n (xs ++ ys)
-take-front zero xs ys = refl
-take-front (suc n) [] ys = refl
-take-front (suc n) (x ∷ xs) ys = ap (λ (l : List ℕ). x ∷ l) (take-front n xs ys)
-
 -- a text over another that is no longer
 over-over : (s t bytes : List ℕ) → length s ≤ length t → over t (over s bytes) ≡ over t bytes
 over-over s t bytes l =
@@ -89,7 +85,7 @@ module _ (a : Asked) (line : List ℕ) (r : Reader) where
 
   module _ (part : List ℕ) where
     held-more : heldWith (deskAt a line r) part ≡ take 19 (line ++ part)
-    held-more = ap (λ (l : List ℕ). take 19 (l ++ part)) held-is ∙ take-front 19 line part
+    held-more = ap (λ (l : List ℕ). take 19 (l ++ part)) held-is ∙ first-more 19 line part
 
     over-more : over (take 19 (line ++ part)) (over (take 19 line) zeros) ≡ over (take 19 (line ++ part)) zeros
     over-more =

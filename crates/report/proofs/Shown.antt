@@ -14,6 +14,7 @@ use Rattle.window.specs.declared.Needed.the-variants as needed
 use Rattle.window.specs.Place.{place, moment, periodEnd}
 use Rattle.window.specs.Window.{lowEdge, windowAt}
 use Rattle.window.specs.Ticks.{named, NeededTicks}
+use Rattle.window.proofs.Division.{window-ticks, window-none}
 use Rattle.runs.specs.Words.{runsOf, wordsOf, repeated, referencesOf}
 use Rattle.runs.specs.Shape.{runsShaped, zeros}
 use Rattle.runs.specs.Joining.{lastEnd}
@@ -32,14 +33,13 @@ use Rattle.answers.specs.Judgement.{verdictOf, verdictAt, verdictWhole}
 use Rattle.answers.specs.Ranges.{inRange, verdictBy, pastNamed}
 use Rattle.answers.proofs.Agreed.{first-reach, agreed-verdict}
 use Rattle.answers.proofs.Judging.{all-covered, end-lacking, judge-nothing}
-use Rattle.answers.proofs.Closed.{window-ticks, window-none}
 use Rattle.file.specs.declared.ReadAnswer.{ReadAnswer}
 use Rattle.file.specs.Lines.{linesFrom, restFrom}
 use Rattle.file.specs.Judging.{settledReading, onNothing, onHeaded, onOpen, takeHead, takeFirstS, takeS, takeEnd, takeLine, takeLines, readLines, readOutcome, readAnswer, readTable}
 use Rattle.hex.specs.Digits.{between, isDigit, valueOf, areDigits, numberOf}
 use Rattle.frames.specs.Fields.{fieldValues}
 use Rattle.frames.specs.Frames.{frameAs, frameOf}
-use Rattle.frames.specs.Worked.{bytesOf as ascii}
+use Rattle.frames.specs.Worked.{headB as headFrom, bytesOf as ascii}
 use Rattle.report.specs.declared.Asked.{Asked}
 use Rattle.report.specs.declared.Asked.the-variants.{At, Whole}
 use Rattle.report.specs.Input.{hasFeed, firstLine, behindFirst}
@@ -71,15 +71,7 @@ unended = refl
 abbrev recordB : Record
 recordB =
     record {
-      head =
-          record {
-            timescale = record { 0 = 1000 };
-            offset = record { 0 = 0 };
-            start = record { 0 = 0 };
-            duration = record { 0 = 0 };
-            depth = record { 0 = 10_000 };
-            first = record { 0 = 1 };
-          };
+      head = headFrom 1;
       accepted = 5;
       dropped = 0;
       next = record { 0 = 20_000 };

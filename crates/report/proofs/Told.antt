@@ -4,8 +4,7 @@ use mathlib.Core.Bool.{cond}
 use mathlib.Core.List.{List}
 use Prim.Native.Nat.{ℕ, _≤_}
 use native.Mathlib.Omega.{arith}
-use lib.ListN.{length, take, drop, length-append}
-use lib.Seq.{length-take-le}
+use lib.ListN.{length, drop, length-append}
 use Rattle.units.specs.declared.Millis.{Millis}
 use Rattle.agreement.specs.declared.refusal.Refusal.{Refusal}
 use Rattle.agreement.specs.declared.refusal.Refusal.the-variants.{BadLine}
@@ -102,6 +101,3 @@ module _ (r s : Reply) (e : r ≡ s) (out after : List ℕ) (n : ℕ) (p : Put o
 module _ (text out after : List ℕ) (n : ℕ) (e : n ≡ length text) (f : after ≡ over text out) where
   pub told-within : n ≤ length after
   told-within = omega (arith, ap length f, length-append text (drop (length text) out))
-
-  pub told-part : n ≡ length (take n after)
-  told-part = sym (length-take-le n after told-within)

@@ -3,12 +3,12 @@
 use mathlib.Core.Path.{_≡_, refl, sym, ap, ap₂, subst, _∙_}
 use mathlib.Core.Bool.{Bool, true, false, cond, _&&_, not, and-eq-true-iff}
 use Prim.Native.Nat.{ℕ, zero, suc, _+_, _*_, _≤_, _<_}
-use native.Mathlib.Nat.{mul-one, mul-le-mul-left, not-suc-le-zero, le-refl}
+use native.Mathlib.Nat.{mul-one, mul-le-mul-left, not-suc-le-zero, le-refl, le-trans}
 use native.Mathlib.Numerals.{add-one}
 use native.Mathlib.Omega.{arith}
 use mathlib.Core.List.{List, [], _∷_, _++_}
 use lib.Dec.{eqb, leb}
-use lib.ListN.{drop}
+use lib.ListN.{length, drop}
 use borrow.Author.Tests.{leb-true, le-leb, eqb-true, eqb-false, eq-eqb, ne-eqb, not-true}
 use Rattle.units.specs.declared.Span.{Span}
 use Rattle.units.specs.Limits.{largestTick, largestSpan, spanHeld}
@@ -17,7 +17,7 @@ use Rattle.window.specs.Window.{endOf}
 use Rattle.window.specs.References.{Joined, Each}
 use Rattle.runs.specs.declared.Run.{Run}
 use Rattle.runs.specs.Words.{runEnd, repeated, referencesOf}
-use Rattle.runs.specs.Encoding.{push, encode}
+use Rattle.runs.specs.Encoding.{push, encode, runsFor}
 use Rattle.runs.specs.Shape.{runHeld, follows, runsShaped}
 use Rattle.runs.specs.Joining.{Within}
 
@@ -244,3 +244,21 @@ unfolding encode runsShaped
 shaped-encode t [] j w = refl
 shaped-encode t (r ∷ rs) j w =
     push-shaped r (encode rs) (starts-encode (endOf r) rs (j .1)) (w .0) (shaped-encode (endOf r) rs (j .1) (w .1))
+
+-- ---- fewer references take no more runs
+
+push-grows : (r : Reference) (xs : List Run) → length xs ≤ length (push r xs)
+unfolding push
+push-grows r [] = omega arith
+push-grows r (x ∷ xs) = go (eqb (r .span .0) (x .span .0))
+  where
+    go : (t : Bool) →
+        suc (length xs) ≤ length (cond t (run (r .start .0) (r .span .0) (x .count + 1) ∷ xs) (run (r .start .0) (r .span .0) 1 ∷ x ∷ xs))
+    go true = omega arith
+    go false = omega arith
+
+pub runs-drop : (n : ℕ) (rs : List Reference) → runsFor (drop n rs) ≤ runsFor rs
+unfolding encode
+runs-drop zero rs = le-refl (runsFor rs)
+runs-drop (suc n) [] = le-refl 0
+runs-drop (suc n) (r ∷ rs) = le-trans (runs-drop n rs) (push-grows r (encode rs))

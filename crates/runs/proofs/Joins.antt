@@ -40,6 +40,18 @@ pub each-append : (P : Reference → Type 0) (xs ys : List Reference) → Each P
 each-append P [] ys e f = f
 each-append P (x ∷ xs) ys e f = (e .0, each-append P xs ys (e .1) f)
 
+-- what a drop leaves joins as before, and each keeps its property
+pub join-drop : (n t : ℕ) (rs : List Reference) → Joined t rs → Joined (lastEnd t (take n rs)) (drop n rs)
+unfolding lastEnd
+join-drop zero t rs j = j
+join-drop (suc n) t [] j = tt
+join-drop (suc n) t (r ∷ rs) j = join-drop n (endOf r) rs (j .1)
+
+pub each-drop : (P : Reference → Type 0) (n : ℕ) (rs : List Reference) → Each P rs → Each P (drop n rs)
+each-drop P zero rs e = e
+each-drop P (suc n) [] e = e
+each-drop P (suc n) (r ∷ rs) e = each-drop P n rs (e .1)
+
 pub references-append : (xs ys : List Run) → referencesOf (xs ++ ys) ≡ referencesOf xs ++ referencesOf ys
 unfolding referencesOf
 references-append [] ys = refl

@@ -8,4 +8,3 @@ pub mod Moving
 pub mod Walking
 pub mod Dropping
 pub mod Storing
-pub mod Keeping

@@ -1,16 +1,17 @@
 -- A trim of an agreeing record and table: what is gone stands in front, and the record counts it.
-use mathlib.Core.Path.{_≡_, sym, ap, ap₂, subst, subst⁻¹, _∙_}
-use mathlib.Core.Bool.{Bool, true, false, cond, not}
+use mathlib.Core.Path.{_≡_, refl, sym, ap, ap₂, subst, subst⁻¹, _∙_}
+use mathlib.Core.Bool.{Bool, true, false, not}
 use mathlib.Core.List.{List}
 use Prim.Native.Nat.{ℕ, _+_, _-_, _≤_, _<_, max}
 use native.Mathlib.Nat.{max-eq-left, max-eq-right, max-le, le-of-lt}
 use native.Mathlib.Omega.{arith}
-use borrow.Author.Tests.{leb-true, not-true, not-false}
+use borrow.Author.Tests.{leb-true}
 use lib.ListN.{length, getD, drop, length-drop}
 use mir.Syntax.{w64}
 use mir.Val.{Fits}
 use Rattle.units.specs.declared.Millis.{Millis}
 use Rattle.units.specs.Limits.{largestMillis, millisHeld}
+use Rattle.units.proofs.Guards.{told, refused, allowed}
 use Rattle.window.specs.declared.Passed.{Passed}
 use Rattle.window.specs.Ticks.{EndsPassed}
 use Rattle.runs.specs.Encoding.{runsFor, canonical}
@@ -36,26 +37,20 @@ module _ (a b : Millis) where
 module _ (rec : Record) (ws : List ℕ) (c : Millis) (t : Bool) (e : t ≡ agrees rec ws) where
   pub trim-disagrees : not t ≡ true → trimOutcome rec ws c ≡ Refused Disagreement
   unfolding trimOutcome
-  trim-disagrees n = ap (λ b. cond b (cond (millisHeld c) Accepted (Refused ClockLimit)) (Refused Disagreement)) (sym e ∙ not-true t n)
+  trim-disagrees n = sym (refused t _ _ _ e n)
 
   module _ (n : not t ≡ false) (u : Bool) (k : u ≡ millisHeld c) where
-    pub trim-agrees : agrees rec ws ≡ true
-    trim-agrees = sym e ∙ not-false t n
-
-    trim-by : trimOutcome rec ws c ≡ cond u Accepted (Refused ClockLimit)
-    unfolding trimOutcome
-    trim-by =
-        ap₂ (λ b d. cond b (cond d Accepted (Refused ClockLimit)) (Refused Disagreement)) (sym e ∙ not-false t n) (sym k)
-
     pub trim-over : not u ≡ true → trimOutcome rec ws c ≡ Refused ClockLimit
-    trim-over m = trim-by ∙ ap (λ b. cond b Accepted (Refused ClockLimit)) (not-true u m)
+    unfolding trimOutcome
+    trim-over m = sym (allowed t _ _ _ _ e n (refused u _ _ _ k m))
 
     module _ (m : not u ≡ false) where
       pub trim-accepted : trimOutcome rec ws c ≡ Accepted
-      trim-accepted = trim-by ∙ ap (λ b. cond b Accepted (Refused ClockLimit)) (not-false u m)
+      unfolding trimOutcome
+      trim-accepted = sym (allowed t _ _ _ _ e n (allowed u _ _ _ _ k m refl))
 
       pub trim-clock : c .0 ≤ largestMillis
-      trim-clock = leb-true (c .0) largestMillis (sym k ∙ not-false u m)
+      trim-clock = leb-true (c .0) largestMillis (told u _ k m)
 
 -- ---- the step
 

@@ -133,6 +133,26 @@ module _ (h : Head) where
   unfolding periodEnd
   needed-period e most n p t = record { some = t .some; each = λ k. ap (λ (u : ℕ). tickNeeded h (inside 0 u) k) (sym (p .is)) ∙ t .each k }
 
+  -- in closed form, by the edges
+
+  pub window-ticks : (c : ℕ) → lowN h c < highN h c →
+      NeededTicks h (windowAt h c) (Ticks (record { 0 = h .offset .0 + lowN h c / 1000 }) (record { 0 = h .offset .0 + (highN h c + 999) / 1000 }))
+  window-ticks c l =
+      let t = ticks-needed (lowN h c) (highN h c) l in
+      record { some = t .some; each = λ k. window-inside h c k ∙ t .each k }
+
+  pub window-none : (c : ℕ) → highN h c ≤ lowN h c → NeededTicks h (windowAt h c) Nothing
+  window-none c l =
+      let t = none-needed (lowN h c) (highN h c) l in
+      record { some = t .some; each = λ k. window-inside h c k ∙ t .each k }
+
+  pub period-ticks : 0 < endAt h →
+      NeededTicks h (wholePeriod h) (Ticks (record { 0 = h .offset .0 + 0 / 1000 }) (record { 0 = h .offset .0 + (endAt h + 999) / 1000 }))
+  unfolding periodEnd
+  period-ticks l =
+      let t = ticks-needed 0 (endAt h) l in
+      record { some = t .some; each = t .each }
+
   -- ---- the least count that reaches the period end
 
   pub reaches-is : (k : ℕ) → reachesEnd h k ≡ leb (endAt h + h .offset .0 * 1000) (k * 1000)

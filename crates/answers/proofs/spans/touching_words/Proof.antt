@@ -1,7 +1,7 @@
 -- `touching_words` meets its contract: the refusals in their order, then the words.
 use borrow.Author.Needs.{needs}
+use Rattle.units.proofs.Guards.{told, refused, allowed, below, at-least}
 use Rattle.agreement.proofs.Agreeing.{agree-shaped}
-use Rattle.answers.proofs.Guards.{told, refused, allowed, below, at-least}
 use Rattle.answers.proofs.spans.touching_words.Statement.{statement}
 use Rattle.answers.proofs.spans.touching_words.Tie as tie
 

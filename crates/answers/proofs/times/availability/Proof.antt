@@ -1,9 +1,9 @@
 -- `availability` meets its contract: the refusals in their order, then the reference that was found.
 use borrow.Author.Needs.{needs}
 use mathlib.Core.Path.{ap, _∙_}
+use Rattle.units.proofs.Guards.{told, refused, allowed}
 use Rattle.agreement.proofs.Agreeing.{agree-head}
 use Rattle.answers.specs.Available.{numberAvailability}
-use Rattle.answers.proofs.Guards.{told, refused, allowed}
 use Rattle.answers.proofs.Agreed.{agreed-within}
 use Rattle.answers.proofs.Numbering.{is-within}
 use Rattle.answers.proofs.times.availability.Statement.{statement}

@@ -2,9 +2,9 @@
 use borrow.Author.Needs.{needs}
 use borrow.Author.Tests.{leb-true}
 use mathlib.Core.Path.{ap, _∙_}
+use Rattle.units.proofs.Guards.{told, refused, allowed}
 use Rattle.agreement.proofs.Agreeing.{agree-head}
 use Rattle.answers.specs.Available.{numberAvailable}
-use Rattle.answers.proofs.Guards.{told, refused, allowed}
 use Rattle.answers.proofs.Agreed.{agreed-within}
 use Rattle.answers.proofs.Numbering.{is-within}
 use Rattle.answers.proofs.times.available_at.Statement.{statement}

@@ -1,8 +1,8 @@
 -- `verdict` meets its contract: the refusals in their order, then the verdict of the kept references.
 use borrow.Author.Needs.{needs}
 use borrow.Author.Tests.{leb-true}
+use Rattle.units.proofs.Guards.{told, refused, allowed, at-most, above}
 use Rattle.agreement.proofs.Agreeing.{agree-head}
-use Rattle.answers.proofs.Guards.{told, refused, allowed, at-most, above}
 use Rattle.answers.proofs.Agreed.{agreed-verdict}
 use Rattle.answers.proofs.verdicts.verdict.Statement.{statement}
 use Rattle.answers.proofs.verdicts.verdict.Tie as tie

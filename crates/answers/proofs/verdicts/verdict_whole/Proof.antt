@@ -1,7 +1,7 @@
 -- `verdict_whole` meets its contract: the refusals in their order, then the verdict of the kept references.
 use borrow.Author.Needs.{needs}
+use Rattle.units.proofs.Guards.{told, refused, allowed, unlike, like}
 use Rattle.agreement.proofs.Agreeing.{agree-head}
-use Rattle.answers.proofs.Guards.{told, refused, allowed, unlike, like}
 use Rattle.answers.proofs.Agreed.{agreed-verdict}
 use Rattle.answers.proofs.verdicts.verdict_whole.Statement.{statement}
 use Rattle.answers.proofs.verdicts.verdict_whole.Tie as tie

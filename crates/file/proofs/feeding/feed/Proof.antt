@@ -1,8 +1,9 @@
 -- `feed` meets its contract. The loop's invariant: what is left of the piece comes to the same. The measure is how much that is.
 use Prim.Native.Nat.{_-_}
 use lib.ListN.{length}
+use lib.Seq.{length-take-le}
 use borrow.Author.Needs.{needs}
-use Rattle.file.proofs.Turning.{unfed-reader, unfed-table, Turned, turn-none, turn-part, turn-count, turn-feed, turn-held, turn-over, turned-reader, turned-table}
+use Rattle.file.proofs.Turning.{unfed-reader, unfed-table, Turned, turn-none, turn-part, turn-feed, turn-held, turn-over, turned-reader, turned-table}
 use Rattle.file.proofs.feeding.feed.Statement.{statement}
 use Rattle.file.proofs.feeding.feed.Tie as tie
 
@@ -66,7 +67,7 @@ feed-spec =
     (λ c. search needs)
     (λ c. search needs)
     (λ c. search (needs, turn-part))
-    (λ c. search (needs, turn-count))
+    (λ c. search (needs, length-take-le, turn-part))
     take-line-requires
     (λ c. search needs)
     loop-again

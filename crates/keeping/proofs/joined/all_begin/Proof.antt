@@ -1,6 +1,8 @@
 -- `all_begin` meets its contract: the last reference speaks for all.
 use borrow.Author.Needs.{needs}
-use Rattle.keeping.proofs.Appends.{begin-product, begin-sum, begin-asks, begin-is}
+use native.Mathlib.Nat.{sub-le}
+use Rattle.runs.proofs.Moving.{part-fits, start-fits}
+use Rattle.keeping.proofs.Appends.{begin-asks, begin-is}
 use Rattle.keeping.proofs.joined.all_begin.Statement.{statement}
 use Rattle.keeping.proofs.joined.all_begin.Tie as tie
 
@@ -9,7 +11,7 @@ all-begin-spec =
     tie.close
     (tie.spec
     (λ c. search needs)
-    (λ c. begin-product (c .before .args .rec) _ _ (c .before .pre))
-    (λ c. search (needs, begin-sum))
+    (λ c. search (needs, part-fits, sub-le))
+    (λ c. search (needs, start-fits, sub-le))
     (λ c κs. begin-asks (c .before .before .args .rec) _ _ (c .before .before .pre))
     (λ c. search (needs, begin-is)))

@@ -1,6 +1,6 @@
 -- `has_room` meets its contract, either way.
 use borrow.Author.Needs.{needs}
-use Rattle.keeping.proofs.Appends.{room-there, room-if}
+use Rattle.units.proofs.Guards.{refused, allowed}
 use Rattle.keeping.proofs.joined.has_room.Statement.{statement}
 use Rattle.keeping.proofs.joined.has_room.Tie as tie
 
@@ -9,5 +9,5 @@ has-room-spec =
     tie.close
     (tie.spec
     (λ c κs. search needs)
-    (λ c. search (needs, room-there))
-    (λ c. search (needs, room-if)))
+    (λ c. search (needs, refused))
+    (λ c. search (needs, allowed)))

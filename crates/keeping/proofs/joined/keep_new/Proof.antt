@@ -1,8 +1,9 @@
 -- `keep_new` meets its contract, way by way.
 use borrow.Author.Needs.{needs}
 use Rattle.agreement.specs.declared.refusal.Refusal.the-variants.{NoRunLeft}
+use Rattle.agreement.proofs.Agreeing.{agree-shaped}
 use Rattle.keeping.proofs.Outcomes.{answer-refused, answer-accepted, words-refused, words-accepted}
-use Rattle.keeping.proofs.Appends.{keep-asks, keep-shaped, keep-lasts, keep-counts, keep-dropped, keep-record, gone-used, gone-room, gone-table, store-some, store-product, store-sum, store-storable, store-full, store-accepted, store-room, store-used, store-table}
+use Rattle.keeping.proofs.Appends.{keep-asks, keep-lasts, keep-counts, keep-dropped, keep-record, gone-used, gone-room, gone-table, store-some, store-product, store-sum, store-storable, store-full, store-accepted, store-room, store-used, store-table}
 use Rattle.keeping.proofs.joined.keep_new.Statement.{statement}
 use Rattle.keeping.proofs.joined.keep_new.Tie as tie
 
@@ -42,7 +43,7 @@ keep-new-spec =
     (λ c κs. search (needs, keep-counts, keep-dropped))
     (λ c κs. search needs)
     (λ c. (search (needs, answer-accepted, gone-room, keep-record, gone-used), search (needs, words-accepted, gone-room, gone-table)))
-    (λ c κs. search (needs, keep-shaped))
+    (λ c κs. search (needs, agree-shaped))
     (λ c κs. search needs)
     (λ c. search needs)
     (λ c. (search (needs, answer-refused, store-full), words-refused _ _ _ NoRunLeft (search (needs, store-full))))

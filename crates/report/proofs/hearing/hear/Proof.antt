@@ -1,8 +1,9 @@
 -- `hear` meets its contract: the bytes held are judged.
-use mathlib.Core.Path.{_≡_}
+use mathlib.Core.Path.{_≡_, sym}
 use lib.ListN.{length}
+use lib.Seq.{length-take-le}
 use borrow.Author.Needs.{needs}
-use Rattle.report.proofs.Heard.{held-fits, held-count, heard-is}
+use Rattle.report.proofs.Heard.{held-fits, heard-is}
 use Rattle.report.proofs.hearing.hear.Statement.{statement}
 use Rattle.report.proofs.hearing.hear.Tie as tie
 
@@ -14,7 +15,8 @@ array-share-prefix-line c = let start = c .before .before in held-fits (start .a
 
 slice-aggregate-asked-on : tie.Need-slice-aggregate-asked-on
 slice-aggregate-asked-on c =
-    let start = c .before .before .before in held-count (start .args .desk) (line-long start) _ (c .before .before .smaller .ensures)
+    let start = c .before .before .before in
+    sym (length-take-le _ _ (held-fits (start .args .desk) (line-long start) _ (c .before .before .smaller .ensures)))
 
 returns : tie.Need-returns
 returns c =

@@ -1,6 +1,7 @@
 -- `hear_on` meets its contract: the clock line goes on, or it ends and the file begins.
+use lib.Seq.{length-take-le}
 use borrow.Author.Needs.{needs}
-use Rattle.report.proofs.Heard.{end-part, heard-some, next-fits, next-within, heard-all}
+use Rattle.report.proofs.Heard.{end-within, heard-some, next-fits, next-within, heard-all}
 use Rattle.report.proofs.hearing.hear_on.Statement.{statement}
 use Rattle.report.proofs.hearing.hear_on.Tie as tie
 
@@ -9,7 +10,7 @@ hear-on-spec =
     tie.close
     (tie.spec
     (λ c κs. search needs)
-    (λ c. search (needs, end-part))
+    (λ c. search (needs, length-take-le, end-within))
     (λ c κs. search needs)
     (λ c. search (needs, heard-some))
     (λ c. search (needs, next-fits))

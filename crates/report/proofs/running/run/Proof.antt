@@ -1,6 +1,7 @@
 -- `run` is safe and ends: the line that is written stands in the output.
+use lib.Seq.{length-take-le}
 use borrow.Author.Needs.{needs}
-use Rattle.report.proofs.Told.{told-within, told-part}
+use Rattle.report.proofs.Told.{told-within}
 use Rattle.report.proofs.running.run.Statement.{statement}
 use Rattle.report.proofs.running.run.Tie as tie
 
@@ -13,6 +14,6 @@ run-spec =
     (λ c. search needs)
     (λ c κs. search needs)
     (λ c. search (needs, told-within))
-    (λ c. search (needs, told-part))
+    (λ c. search (needs, length-take-le, told-within))
     (λ c κs. search needs)
     (λ c. search needs))

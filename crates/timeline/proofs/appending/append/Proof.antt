@@ -1,8 +1,9 @@
 -- `append` meets its contract: agreement first, then how the start stands.
 use borrow.Author.Needs.{needs}
+use Rattle.units.proofs.Guards.{told}
 use Rattle.agreement.specs.declared.refusal.Refusal.the-variants.{Disagreement}
 use Rattle.keeping.proofs.Outcomes.{answer-refused, words-refused}
-use Rattle.timeline.proofs.Judged.{disagrees, agrees-so, answer-stands, words-stand}
+use Rattle.timeline.proofs.Judged.{disagrees, answer-stands, words-stand}
 use Rattle.timeline.proofs.appending.append.Statement.{statement}
 use Rattle.timeline.proofs.appending.append.Tie as tie
 
@@ -15,6 +16,6 @@ append-spec =
     (λ c. search needs)
     (λ c. (search (needs, answer-refused, disagrees), words-refused _ _ _ Disagreement (search (needs, disagrees))))
     (λ c κs. search needs)
-    (λ c κs. search (needs, agrees-so))
+    (λ c κs. search (needs, told))
     (λ c. search needs)
     (λ c. (search (needs, answer-stands), search (needs, words-stand))))

@@ -1,8 +1,9 @@
 -- `append_standing` meets its contract, case by case.
 use borrow.Author.Needs.{needs}
+use native.Mathlib.Nat.{pos-of-ne-zero}
 use Rattle.agreement.specs.declared.refusal.Refusal.the-variants.{NothingGiven, Gap, Overlap}
 use Rattle.keeping.proofs.Outcomes.{answer-refused, words-refused, answer-as, words-as}
-use Rattle.timeline.proofs.Judged.{no-duration, no-count, stands-gap, stands-overlap, stands-joins, duration-held, count-some}
+use Rattle.timeline.proofs.Judged.{no-duration, no-count, stands-gap, stands-overlap, stands-joins, duration-held}
 use Rattle.timeline.proofs.appending.append_standing.Statement.{statement}
 use Rattle.timeline.proofs.appending.append_standing.Tie as tie
 
@@ -15,7 +16,7 @@ append-standing-spec =
     (λ c κs. search needs)
     (λ c. (search (needs, answer-refused, no-count), words-refused _ _ _ NothingGiven (search (needs, no-count))))
     (λ c. search needs)
-    (λ c κs. search (needs, duration-held, count-some))
+    (λ c κs. search (needs, duration-held, pos-of-ne-zero))
     (λ c. search needs)
     (λ c κs. search needs)
     (λ c. search needs)

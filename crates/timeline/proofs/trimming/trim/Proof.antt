@@ -1,8 +1,9 @@
 -- `trim` meets its contract, way by way.
 use borrow.Author.Needs.{needs}
+use Rattle.units.proofs.Guards.{told}
 use Rattle.agreement.specs.declared.refusal.Refusal.the-variants.{Disagreement, ClockLimit}
 use Rattle.keeping.proofs.Outcomes.{answer-refused, answer-accepted, words-refused, words-accepted}
-use Rattle.timeline.proofs.Trims.{trim-disagrees, trim-agrees, trim-over, trim-accepted, trim-clock}
+use Rattle.timeline.proofs.Trims.{trim-disagrees, trim-over, trim-accepted, trim-clock}
 use Rattle.timeline.proofs.trimming.trim.Statement.{statement}
 use Rattle.timeline.proofs.trimming.trim.Tie as tie
 
@@ -18,7 +19,7 @@ trim-spec =
     (λ c κs. search needs)
     (λ c. search needs)
     (λ c. (search (needs, answer-refused, trim-over), words-refused _ _ _ ClockLimit (search (needs, trim-over))))
-    (λ c κs. search (needs, trim-agrees, trim-clock))
+    (λ c κs. search (needs, told, trim-clock))
     (λ c κs. search needs)
     (λ c. search needs)
     (λ c. search (needs, answer-accepted, words-accepted, trim-accepted)))
