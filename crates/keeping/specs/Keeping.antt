@@ -1,4 +1,5 @@
--- What is left of references at a clock: those that are not spent. Paper: Window, needed, spent; Append and trim.
+-- What is left of references at a clock: those that are not spent. And what a call that changes leaves, by its outcome: refused,
+-- it returns the record as it came and changes no word. Paper: Window, needed, spent; Append and trim; Refusal numbers.
 use Prim.Native.Nat.{ℕ, _+_, _-_}
 use mathlib.Core.Bool.{Bool, true, cond}
 use lib.Dec.{ltb}

@@ -1,6 +1,7 @@
 -- Given exactly when. Each call gives the lowest number whose condition holds, and 0 where none does, for any record, table and
 -- arguments: so it refuses what it should, and nothing else. A call is a table with a row for each of its numbers, in the words of
--- the paper's column. The lines of a file are judged one by one, in orders of their own (`file`'s Judging). Paper: Refusal numbers.
+-- the paper's column. An append's duration is one of 32 bits, as its type says. The lines of a file are judged one by one, in
+-- orders of their own (`file`'s Judging). Paper: Refusal numbers.
 use Prim.Native.Nat.{ℕ, _+_, _*_, _^_, _≤_}
 use mathlib.Core.Path.{_≡_}
 use mathlib.Core.Bool.{Bool, false, cond, not, _&&_, _||_}
@@ -78,7 +79,7 @@ appendRows rec ws after before d n =
 abbrev pub notKept : Record → Number → Bool
 notKept rec n = ltb (n .0) (rec .head .first .0 + rec .dropped) || leb (rec .head .first .0 + rec .accepted) (n .0)
 
--- the table of every call that takes a record or makes one
+-- the table of every call but those that read a file
 pub record Refusals : Type 0 where
   pub opening : (h : Head) (t : Tick) → outcomeNumber (openAnswer h t .outcome) ≡ lowest ((overLimit h t, 1) ∷ [])
   pub append : (rec : Record) (ws : List ℕ) (start : WideTick) (d n : ℕ) → d ≤ largestSpan →
