@@ -10,3 +10,5 @@ pub mod Rows
 pub mod Changing
 pub mod Refusals
 pub mod Unique
+pub mod Answering
+pub mod Demand1

@@ -4,3 +4,4 @@ pub mod Demand2
 pub mod History
 pub mod Refusals
 pub mod Unique
+pub mod Demand1

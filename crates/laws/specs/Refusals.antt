@@ -73,39 +73,60 @@ appendRows rec ws after before d n =
     (noRunLeft rec ws d n, 9) ∷
     []
 
+-- an append by full tick
+abbrev pub appendTickRows : Record → List ℕ → WideTick → ℕ → ℕ → List (Bool × ℕ)
+appendTickRows rec ws start d n = appendRows rec ws (ltb (rec .next .0) (start .0)) (ltb (start .0) (rec .next .0)) d n
+
+-- an append by stamp: stamp less next tick, modulo 2^32, is a gap from 1 to 2^31 - 1, and from 2^31 on an overlap
+abbrev pub appendStampRows : Record → List ℕ → Stamp → ℕ → ℕ → List (Bool × ℕ)
+appendStampRows rec ws stamp d n =
+    appendRows rec ws
+    (ltb 0 (less32 (stamp .0) (rec .next .0)) && ltb (less32 (stamp .0) (rec .next .0)) (2 ^ 31))
+    (leb (2 ^ 31) (less32 (stamp .0) (rec .next .0)))
+    d n
+
+abbrev pub openRows : Head → Tick → List (Bool × ℕ)
+openRows h t = (overLimit h t, 1) ∷ []
+
+abbrev pub trimRows : Record → List ℕ → Millis → List (Bool × ℕ)
+trimRows rec ws c = (not (agrees rec ws), 2) ∷ (ltb largestMillis (c .0), 10) ∷ []
+
 -- ---- the calls that look
+
+abbrev pub verdictRows : Record → List ℕ → Millis → List (Bool × ℕ)
+verdictRows rec ws c = (not (agrees rec ws), 2) ∷ (ltb largestMillis (c .0), 10) ∷ (ltb (c .0) (rec .clock .0), 11) ∷ []
+
+abbrev pub wholeRows : Record → List ℕ → List (Bool × ℕ)
+wholeRows rec ws = (not (agrees rec ws), 2) ∷ (eqb (rec .head .duration .0) 0, 19) ∷ []
 
 -- 13: the number lies before the first kept reference's or after the last one's
 abbrev pub notKept : Record → Number → Bool
 notKept rec n = ltb (n .0) (rec .head .first .0 + rec .dropped) || leb (rec .head .first .0 + rec .accepted) (n .0)
 
+abbrev pub availabilityRows : Record → List ℕ → Number → List (Bool × ℕ)
+availabilityRows rec ws n = (not (agrees rec ws), 2) ∷ (notKept rec n, 13) ∷ []
+
+abbrev pub availableRows : Record → List ℕ → Number → Millis → List (Bool × ℕ)
+availableRows rec ws n c = (not (agrees rec ws), 2) ∷ (ltb largestMillis (c .0), 10) ∷ (notKept rec n, 13) ∷ []
+
+abbrev pub touchingRows : Record → List ℕ → WideTick → WideTick → List (Bool × ℕ)
+touchingRows rec ws a b = (not (agrees rec ws), 2) ∷ (leb (b .0) (a .0), 14) ∷ []
+
+abbrev pub writeRows : Record → List ℕ → ℕ → List (Bool × ℕ)
+writeRows rec ws room = (not (agrees rec ws), 2) ∷ (eqb (rec .used) 0, 12) ∷ (ltb room (length (fileFor rec ws)), 15) ∷ []
+
 -- the table of every call but those that read a file
 pub record Refusals : Type 0 where
-  pub opening : (h : Head) (t : Tick) → outcomeNumber (openAnswer h t .outcome) ≡ lowest ((overLimit h t, 1) ∷ [])
+  pub opening : (h : Head) (t : Tick) → outcomeNumber (openAnswer h t .outcome) ≡ lowest (openRows h t)
   pub append : (rec : Record) (ws : List ℕ) (start : WideTick) (d n : ℕ) → d ≤ largestSpan →
-      outcomeNumber (appendAnswer rec ws (tickStanding start (rec .next)) d n .outcome) ≡
-      lowest (appendRows rec ws (ltb (rec .next .0) (start .0)) (ltb (start .0) (rec .next .0)) d n)
+      outcomeNumber (appendAnswer rec ws (tickStanding start (rec .next)) d n .outcome) ≡ lowest (appendTickRows rec ws start d n)
   pub append-stamp : (rec : Record) (ws : List ℕ) (stamp : Stamp) (d n : ℕ) → d ≤ largestSpan →
-      outcomeNumber (appendAnswer rec ws (stampStanding stamp (rec .next)) d n .outcome) ≡
-      lowest
-      (appendRows rec ws
-      (ltb 0 (less32 (stamp .0) (rec .next .0)) && ltb (less32 (stamp .0) (rec .next .0)) (2 ^ 31))
-      (leb (2 ^ 31) (less32 (stamp .0) (rec .next .0)))
-      d n)
-  pub trim : (rec : Record) (ws : List ℕ) (c : Millis) →
-      outcomeNumber (trimAnswer rec ws c .outcome) ≡ lowest ((not (agrees rec ws), 2) ∷ (ltb largestMillis (c .0), 10) ∷ [])
-  pub verdict : (rec : Record) (ws : List ℕ) (c : Millis) →
-      verdictNumber (verdictAt rec ws c) ≡
-      lowest ((not (agrees rec ws), 2) ∷ (ltb largestMillis (c .0), 10) ∷ (ltb (c .0) (rec .clock .0), 11) ∷ [])
-  pub verdict-whole : (rec : Record) (ws : List ℕ) →
-      verdictNumber (verdictWhole rec ws) ≡ lowest ((not (agrees rec ws), 2) ∷ (eqb (rec .head .duration .0) 0, 19) ∷ [])
-  pub availability : (rec : Record) (ws : List ℕ) (n : Number) →
-      availabilityNumber (availabilityIn rec ws n) ≡ lowest ((not (agrees rec ws), 2) ∷ (notKept rec n, 13) ∷ [])
+      outcomeNumber (appendAnswer rec ws (stampStanding stamp (rec .next)) d n .outcome) ≡ lowest (appendStampRows rec ws stamp d n)
+  pub trim : (rec : Record) (ws : List ℕ) (c : Millis) → outcomeNumber (trimAnswer rec ws c .outcome) ≡ lowest (trimRows rec ws c)
+  pub verdict : (rec : Record) (ws : List ℕ) (c : Millis) → verdictNumber (verdictAt rec ws c) ≡ lowest (verdictRows rec ws c)
+  pub verdict-whole : (rec : Record) (ws : List ℕ) → verdictNumber (verdictWhole rec ws) ≡ lowest (wholeRows rec ws)
+  pub availability : (rec : Record) (ws : List ℕ) (n : Number) → availabilityNumber (availabilityIn rec ws n) ≡ lowest (availabilityRows rec ws n)
   pub available-at : (rec : Record) (ws : List ℕ) (n : Number) (c : Millis) →
-      availableNumber (availableIn rec ws n c) ≡
-      lowest ((not (agrees rec ws), 2) ∷ (ltb largestMillis (c .0), 10) ∷ (notKept rec n, 13) ∷ [])
-  pub touching : (rec : Record) (ws : List ℕ) (a b : WideTick) →
-      touchingNumber (touchingWords rec ws a b) ≡ lowest ((not (agrees rec ws), 2) ∷ (leb (b .0) (a .0), 14) ∷ [])
-  pub write : (rec : Record) (ws : List ℕ) (room : ℕ) →
-      writeNumber (writeAnswer rec ws room) ≡
-      lowest ((not (agrees rec ws), 2) ∷ (eqb (rec .used) 0, 12) ∷ (ltb room (length (fileFor rec ws)), 15) ∷ [])
+      availableNumber (availableIn rec ws n c) ≡ lowest (availableRows rec ws n c)
+  pub touching : (rec : Record) (ws : List ℕ) (a b : WideTick) → touchingNumber (touchingWords rec ws a b) ≡ lowest (touchingRows rec ws a b)
+  pub write : (rec : Record) (ws : List ℕ) (room : ℕ) → writeNumber (writeAnswer rec ws room) ≡ lowest (writeRows rec ws room)
