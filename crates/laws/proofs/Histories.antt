@@ -2,17 +2,18 @@
 -- gives the state of a history, every accepted call takes it to the state of the longer history, and every refused call
 -- leaves it.
 use mathlib.Core.Path.{_≡_, refl, sym, ap, ap₂, subst, subst⁻¹, _∙_}
-use mathlib.Core.Bool.{true}
+use mathlib.Core.Bool.{true, false, cond, _||_}
 use mathlib.Core.List.{List, [], _∷_, _++_, append-nil, append-assoc}
 use Prim.Native.Nat.{ℕ, _+_, _-_, _*_, _/_, _≤_, max}
 use native.Mathlib.Nat.{le-max-left, max-zero, zero-max, le-refl, le-trans, le-antisymm, sub-zero}
 use native.Mathlib.Omega.{arith}
+use lib.Dec.{eqb}
 use lib.ListN.{length, take, drop, replicate, length-append, length-replicate}
 use Rattle.units.specs.declared.Millis.{Millis}
 use Rattle.units.specs.declared.Tick.{Tick}
 use Rattle.units.specs.declared.standing.Standing.{Standing}
 use Rattle.units.specs.Standing.{tickStanding, stampStanding}
-use Rattle.units.specs.Limits.{largestSpan, largestMillis}
+use Rattle.units.specs.Limits.{largestSpan, largestMillis, millisHeld}
 use Rattle.window.specs.declared.Head.{Head}
 use Rattle.window.specs.declared.Reference.{Reference}
 use Rattle.window.specs.References.{Joined, Each, Sound}
@@ -26,19 +27,20 @@ use Rattle.runs.proofs.Joins.{join-append, each-append, join-drop, repeated-joi
 use Rattle.runs.proofs.Tables.{canonical-kept, canonical-length, used-fits}
 use Rattle.agreement.specs.declared.Record.{Record}
 use Rattle.agreement.specs.declared.refusal.Refusal.{Refusal}
+use Rattle.agreement.specs.declared.refusal.Refusal.the-variants.{Disagreement, NothingGiven, ClockLimit}
 use Rattle.agreement.specs.Agreement.{kept, agrees}
 use Rattle.agreement.proofs.Agreeing.{agree-shaped, agreeing}
 use Rattle.keeping.specs.declared.Outcome.{Outcome}
 use Rattle.keeping.specs.declared.Outcome.the-variants.{Accepted, Refused}
 use Rattle.keeping.specs.Keeping.{unspent, changedBy, wordsBy}
-use Rattle.keeping.specs.Joined.{given, allOf, leftOf, appended}
+use Rattle.keeping.specs.Joined.{given, allOf, leftOf, fitOutcome, appended}
 use Rattle.keeping.proofs.Unspent.{unspent-append, unspent-few, unspent-suffix}
-use Rattle.timeline.specs.Opening.{freshRecord, openOutcome}
-use Rattle.timeline.specs.Appending.{appendOutcome}
+use Rattle.timeline.specs.Opening.{freshRecord, zeroRecord, openOutcome}
+use Rattle.timeline.specs.Appending.{joining, appendOutcome}
 use Rattle.timeline.specs.Trimming.{leftAt, trimOutcome, trimmed}
 use Rattle.timeline.proofs.Kept.{open-agrees, trim-keeps, Taken, taken, accepted-keeps}
-use Rattle.laws.specs.Calls.{Call, byTick, byStamp, trimAt, Plain, State, opened, appendTo, after, run, ifAccepted, brought, clockIf, clockOf, allAccepted, greatest}
-use Rattle.laws.specs.History.{StillNeeded, Picked, Holds, Demand3}
+use Rattle.laws.specs.Calls.{Call, byTick, byStamp, trimAt, Plain, State, opening, appendTo, after, run, outcomeOf, ifAccepted, brought, allAccepted, Append, appendsOf, acceptedAppends, laidFrom, clockIf, clockOf, greatest}
+use Rattle.laws.specs.History.{StillNeeded, Picked, Holds, Mixings, Demand3}
 use Rattle.laws.proofs.Leaving.{unspent-raised, trim-small, each-sound, drop-counted, still}
 
 -- ---- the state of a history
@@ -290,6 +292,11 @@ module _ (h : Head) (t : Tick) (words : ℕ) where
     same-history acc (acc ++ []) c (max c 0) (sym (append-nil acc)) (sym (max-zero c)) f,
   )
 
+  -- a trim brings nothing, however it ends
+  none-brought : (o : Outcome) → ifAccepted {A = Reference} o [] ≡ []
+  none-brought Accepted = refl
+  none-brought (Refused why) = refl
+
   next-call : (acc : List Reference) (c : ℕ) → Fit acc c → (call : Call) → Plain (call ∷ []) → Next acc c call
   next-call acc c f (byTick x d n) p =
       let st = tickStanding x (recordOf acc c .next) in
@@ -300,8 +307,13 @@ module _ (h : Head) (t : Tick) (words : ℕ) where
       let k = next-append acc c f st d n (p .0) (appendOutcome (recordOf acc c) (wordsOf acc c) st d n) refl in
       record { state = k .0; fits = k .1 }
   next-call acc c f (trimAt m) p =
+      let none : acc ++ brought (stateOf acc c) (trimAt m) ≡ acc ++ [] = ap (λ xs. acc ++ xs) (none-brought (trimOutcome (recordOf acc c) (wordsOf acc c) m)) in
       let k = next-trim acc c f m (trimOutcome (recordOf acc c) (wordsOf acc c) m) refl in
-      record { state = k .0; fits = k .1 }
+      let clock = max c (clockOf (stateOf acc c) (trimAt m)) in
+      record {
+        state = k .0 ∙ ap (λ xs. stateOf xs clock) (sym none);
+        fits = same-history (acc ++ []) (acc ++ brought (stateOf acc c) (trimAt m)) clock clock (sym none) refl (k .1);
+      }
 
   -- THE LAW: a list of calls takes the state of a history to the state of the longer history
   record Ran (acc : List Reference) (c : ℕ) (cs : List Call) : Type 0 where
@@ -338,49 +350,22 @@ module _ (h : Head) (t : Tick) (words : ℕ) where
         fits = same-history _ _ _ _ long high (r .fits);
       }
 
-  -- ---- from an opening
-
-  module _ (o : openOutcome h t ≡ Accepted) where
-    fresh-is : freshRecord h t ≡ recordOf [] 0
-    unfolding unspent lastEnd encode
-    fresh-is = refl
-
-    blank-is : replicate words 0 ≡ wordsOf [] 0
-    unfolding unspent encode tableOf Words.wordsOf
-    blank-is = ap (λ (n : ℕ). replicate n 0) (sym (sub-zero words))
-
-    start-is : opened h t words ≡ stateOf [] 0
-    start-is = ap₂ stateFrom fresh-is blank-is
-
-    start-fit : Fit [] 0
-    start-fit =
-        record {
-          agreed = ap₂ agrees (sym fresh-is) (sym blank-is) ∙ open-agrees h t words o;
-          long = ap length (sym blank-is) ∙ length-replicate words 0;
-          joined = tt;
-          sound = tt;
-        }
-
-    module _ (cs : List Call) (p : Plain cs) where
-      came : Ran [] 0 cs
-      came = runs [] 0 start-fit cs p
-
-      ends-in : run (opened h t words) cs ≡ stateOf (allAccepted (opened h t words) cs) (greatest (opened h t words) cs)
-      ends-in =
-          ap (λ x. run x cs) start-is ∙
-          came .state ∙
-          ap₂ stateOf (ap (λ x. allAccepted x cs) (sym start-is)) (zero-max (greatest (stateOf [] 0) cs) ∙ ap (λ x. greatest x cs) (sym start-is))
-
-      ends-fit : Fit (allAccepted (opened h t words) cs) (greatest (opened h t words) cs)
-      ends-fit =
-          same-history (allAccepted (stateOf [] 0) cs) (allAccepted (opened h t words) cs) (max 0 (greatest (stateOf [] 0) cs)) (greatest (opened h t words) cs)
-          (ap (λ x. allAccepted x cs) (sym start-is))
-          (zero-max (greatest (stateOf [] 0) cs) ∙ ap (λ x. greatest x cs) (sym start-is))
-          (came .fits)
-
-  holds : (acc : List Reference) (c : ℕ) → Fit acc c → Holds h (stateOf acc c) acc c
+  holds : (acc : List Reference) (c : ℕ) → Fit acc c → Holds h t words (stateOf acc c) acc c
   holds acc c f =
       record {
+        head = refl;
+        counted = refl;
+        dropped = omega (arith, unspent-few h c acc, ap length (kept-is acc c f));
+        next = refl;
+        clock = refl;
+        settled =
+            record {
+              agreed = f .agreed;
+              long = f .long;
+              used = sym (ap runsFor (kept-is acc c f));
+              table = sym (ap (canonical words) (kept-is acc c f));
+            };
+        joined = f .joined;
         exactly =
             subst⁻¹ (Picked (StillNeeded h c) acc) (kept-is acc c f)
             (still h c (agreeing (recordOf acc c) (wordsOf acc c) (f .agreed) .held .head .some) acc (f .sound));
@@ -391,12 +376,162 @@ module _ (h : Head) (t : Tick) (words : ℕ) where
             ap (λ xs. drop (length acc - length xs) acc) (sym (suffix acc c f .1));
       }
 
+  start-fit : openOutcome h t ≡ Accepted → Fit [] 0
+  unfolding unspent lastEnd encode tableOf Words.wordsOf
+  start-fit o =
+      let blank : replicate words 0 ≡ wordsOf [] 0 = ap (λ (n : ℕ). replicate n 0) (sym (sub-zero words)) in
+      record {
+        agreed = ap (agrees (freshRecord h t)) (sym blank) ∙ open-agrees h t words o;
+        long = ap length (sym blank) ∙ length-replicate words 0;
+        joined = tt;
+        sound = tt;
+      }
+
+-- ---- from an opening
+
+module _ (h : Head) (t : Tick) (came : List ℕ) where
+  abbrev opens : State
+  opens = opening h t came
+
+  abbrev leaves : Outcome → State
+  leaves o = stateFrom (changedBy o (freshRecord h t) zeroRecord .rec) (wordsBy o (replicate (length came) 0) came)
+
+  abbrev reached : List Reference → ℕ → State
+  reached = stateOf h t (length came)
+
+  module _ (o : openOutcome h t ≡ Accepted) where
+    -- the opening is the history of nothing
+    start-is : opens ≡ reached [] 0
+    unfolding changedBy wordsBy unspent lastEnd encode tableOf Words.wordsOf
+    start-is = ap leaves o ∙ ap (λ (n : ℕ). stateFrom (freshRecord h t) (replicate n 0)) (sym (sub-zero (length came)))
+
+    first-tick : opens .rec .next .0 ≡ t .0
+    unfolding changedBy
+    first-tick = ap (λ x. leaves x .rec .next .0) o
+
+    module _ (cs : List Call) (p : Plain cs) where
+      all-same : allAccepted (reached [] 0) cs ≡ allAccepted opens cs
+      all-same = ap (λ x. allAccepted x cs) (sym start-is)
+
+      clock-same : max 0 (greatest (reached [] 0) cs) ≡ greatest opens cs
+      clock-same = zero-max (greatest (reached [] 0) cs) ∙ ap (λ x. greatest x cs) (sym start-is)
+
+      ran : Ran h t (length came) [] 0 cs
+      ran = runs h t (length came) [] 0 (start-fit h t (length came) o) cs p
+
+      ends-in : run opens cs ≡ reached (allAccepted opens cs) (greatest opens cs)
+      ends-in = ap (λ x. run x cs) start-is ∙ ran .state ∙ ap₂ reached all-same clock-same
+
+      ends-fit : Fit h t (length came) (allAccepted opens cs) (greatest opens cs)
+      ends-fit = same-history h t (length came) _ _ _ _ all-same clock-same (ran .fits)
+
+  -- after a refused opening
+  module _ (why : Refusal) (o : openOutcome h t ≡ Refused why) where
+    refused-is : opens ≡ stateFrom zeroRecord came
+    unfolding changedBy wordsBy
+    refused-is = ap leaves o
+
+-- ---- the references of the accepted appends
+
+module _ (s : State) where
+  abbrev LaidBehind : List Reference → State → List Append → Type 0
+  LaidBehind first next given = (rest : List Append) (xs : List Reference) → xs ≡ laidFrom (next .rec .next .0) rest → first ++ xs ≡ laidFrom (s .rec .next .0) (given ++ rest)
+
+  laid-append : (st : Standing) (d n : ℕ) (o : Outcome) → appendOutcome (s .rec) (s .words) st d n ≡ o →
+      LaidBehind (ifAccepted o (given (s .rec) d n)) (appendTo s st d n) (ifAccepted o (record { duration = d; count = n } ∷ []))
+  unfolding laidFrom changedBy
+  laid-append st d n Accepted e rest xs k =
+      ap (λ ys. given (s .rec) d n ++ ys) (k ∙ ap (λ x. laidFrom (changedBy x (appended (s .rec) (s .words) d n) (s .rec) .rec .next .0) rest) e)
+  laid-append st d n (Refused why) e rest xs k =
+      k ∙ ap (λ x. laidFrom (changedBy x (appended (s .rec) (s .words) d n) (s .rec) .rec .next .0) rest) e
+
+  laid-trim : (m : Millis) (o : Outcome) → trimOutcome (s .rec) (s .words) m ≡ o →
+      LaidBehind (ifAccepted o []) (after s (trimAt m)) (ifAccepted o [])
+  unfolding changedBy
+  laid-trim m Accepted e rest xs k = k ∙ ap (λ x. laidFrom (changedBy x (trimmed (s .rec) (s .words) (m .0)) (s .rec) .rec .next .0) rest) e
+  laid-trim m (Refused why) e rest xs k = k ∙ ap (λ x. laidFrom (changedBy x (trimmed (s .rec) (s .words) (m .0)) (s .rec) .rec .next .0) rest) e
+
+  laid-call : (c : Call) → LaidBehind (brought s c) (after s c) (ifAccepted (outcomeOf s c) (appendsOf c))
+  laid-call (byTick x d n) = laid-append (tickStanding x (s .rec .next)) d n (outcomeOf s (byTick x d n)) refl
+  laid-call (byStamp x d n) = laid-append (stampStanding x (s .rec .next)) d n (outcomeOf s (byStamp x d n)) refl
+  laid-call (trimAt m) = laid-trim m (outcomeOf s (trimAt m)) refl
+
+-- from any record and table
+laid-out : (s : State) (cs : List Call) → allAccepted s cs ≡ laidFrom (s .rec .next .0) (acceptedAppends s cs)
+unfolding allAccepted acceptedAppends laidFrom
+laid-out s [] = refl
+laid-out s (c ∷ cs) = laid-call s c (acceptedAppends (after s c) cs) (allAccepted (after s c) cs) (laid-out (after s c) cs)
+
+laid : (h : Head) (t : Tick) (came : List ℕ) → openOutcome h t ≡ Accepted → (cs : List Call) →
+    allAccepted (opening h t came) cs ≡ laidFrom (t .0) (acceptedAppends (opening h t came) cs)
+laid h t came o cs =
+    laid-out (opening h t came) cs ∙ ap (λ (n : ℕ). laidFrom n (acceptedAppends (opening h t came) cs)) (first-tick h t came o)
+
+-- ---- two lists of calls
+
+module _ (h : Head) (t : Tick) (came other : List ℕ) (cs ds : List Call) (m : Mixings h t came other cs ds) where
+  split : allAccepted (opening h t came) cs ≡ allAccepted (opening h t other) ds → run (opening h t came) cs ≡ run (opening h t other) ds
+  split e =
+      ends-in h t came (m .opens) cs (m .first) ∙
+      ap₂ (stateOf h t (length came)) e (m .one-clock) ∙
+      ap (λ (n : ℕ). stateOf h t n (allAccepted (opening h t other) ds) (greatest (opening h t other) ds)) (m .one-length) ∙
+      sym (ends-in h t other (m .opens) ds (m .second))
+
+  same : acceptedAppends (opening h t came) cs ≡ acceptedAppends (opening h t other) ds → run (opening h t came) cs ≡ run (opening h t other) ds
+  same e = split (laid h t came (m .opens) cs ∙ ap (laidFrom (t .0)) e ∙ sym (laid h t other (m .opens) ds))
+
+-- ---- after a refused opening
+
+module _ (came : List ℕ) where
+  abbrev zeroed : State
+  zeroed = stateFrom zeroRecord came
+
+  zero-disagrees : agrees zeroRecord came ≡ false
+  unfolding agrees
+  zero-disagrees = refl
+
+  never-append : (st : Standing) (d n : ℕ) → appendOutcome zeroRecord came st d n ≡ Refused Disagreement
+  unfolding appendOutcome
+  never-append st d n =
+      ap (λ b. cond b (cond (eqb d 0 || eqb n 0) (Refused NothingGiven) (joining st (fitOutcome zeroRecord came d n))) (Refused Disagreement)) zero-disagrees
+
+  never-trim : (m : Millis) → trimOutcome zeroRecord came m ≡ Refused Disagreement
+  unfolding trimOutcome
+  never-trim m = ap (λ b. cond b (cond (millisHeld m) Accepted (Refused ClockLimit)) (Refused Disagreement)) zero-disagrees
+
+  never : (c : Call) → outcomeOf zeroed c ≡ Refused Disagreement
+  never (byTick x d n) = never-append (tickStanding x (zeroRecord .next)) d n
+  never (byStamp x d n) = never-append (stampStanding x (zeroRecord .next)) d n
+  never (trimAt m) = never-trim m
+
+  stays-append : (st : Standing) (d n : ℕ) → appendTo zeroed st d n ≡ zeroed
+  unfolding changedBy wordsBy
+  stays-append st d n =
+      ap (λ o. stateFrom (changedBy o (appended zeroRecord came d n) zeroRecord .rec) (wordsBy o (canonical (length came) (leftOf zeroRecord came d n)) came))
+      (never-append st d n)
+
+  stays : (c : Call) → after zeroed c ≡ zeroed
+  unfolding changedBy wordsBy
+  stays (byTick x d n) = stays-append (tickStanding x (zeroRecord .next)) d n
+  stays (byStamp x d n) = stays-append (stampStanding x (zeroRecord .next)) d n
+  stays (trimAt m) =
+      ap (λ o. stateFrom (changedBy o (trimmed zeroRecord came (m .0)) zeroRecord .rec) (wordsBy o (canonical (length came) (leftAt zeroRecord came (m .0))) came))
+      (never-trim m)
+
+  stay : (cs : List Call) → run zeroed cs ≡ zeroed
+  unfolding run
+  stay [] = refl
+  stay (c ∷ cs) = ap (λ s. run s cs) (stays c) ∙ stay cs
+
 pub demand-3 : Demand3
 demand-3 =
     record {
-      kept = λ h t words o cs p.
-          subst⁻¹ (λ s. Holds h s (allAccepted (opened h t words) cs) (greatest (opened h t words) cs)) (ends-in h t words o cs p)
-          (holds h t words (allAccepted (opened h t words) cs) (greatest (opened h t words) cs) (ends-fit h t words o cs p));
-      same = λ h t words o cs ds p q a g.
-          ends-in h t words o cs p ∙ ap₂ (stateOf h t words) a g ∙ sym (ends-in h t words o ds q);
+      holds = λ h t came o cs p.
+          subst⁻¹ (λ s. Holds h t (length came) s (allAccepted (opening h t came) cs) (greatest (opening h t came) cs)) (ends-in h t came o cs p)
+          (holds h t (length came) (allAccepted (opening h t came) cs) (greatest (opening h t came) cs) (ends-fit h t came o cs p));
+      laid = laid;
+      same = same;
+      split = split;
+      refused = λ h t came why o cs. ap (λ s. run s cs) (refused-is h t came why o) ∙ stay came cs;
+      never = never;
     }

@@ -20,7 +20,7 @@ use Rattle.window.specs.Ticks.{NeededTicks}
 use Rattle.keeping.specs.declared.Outcome.{Outcome}
 use Rattle.keeping.specs.declared.Outcome.the-variants.{Accepted}
 use Rattle.keeping.specs.Keeping.{outcomeNumber}
-use Rattle.timeline.specs.Opening.{openAnswer, openTable}
+use Rattle.timeline.specs.Opening.{openAnswer}
 use Rattle.timeline.specs.Appending.{appendAnswer}
 use Rattle.timeline.specs.Trimming.{trimAnswer}
 use Rattle.answers.specs.declared.Verdict.the-variants.{Nothing, Complete, Lacking}
@@ -31,7 +31,7 @@ use Rattle.answers.specs.Shares.{verdictPercent}
 use Rattle.answers.specs.Available.{availabilityIn}
 use Rattle.frames.specs.Worked.{bytesOf}
 use Rattle.file.specs.Judging.{readAnswer, readTable}
-use Rattle.laws.specs.Calls.{State, byTick, trimAt, after}
+use Rattle.laws.specs.Calls.{State, opening, byTick, trimAt, after}
 
 -- ---- numbers as what they count
 
@@ -67,9 +67,9 @@ headOf t o s d p n =
 
 -- ---- calls
 
--- what an opening leaves in a table of so many words
-abbrev pub opening : Head → ℕ → ℕ → State
-opening h t words = record { rec = openAnswer h (tick t) .rec; words = openTable h (tick t) (replicate words 0) }
+-- a table of so many words that came full of sevens: what an opening zeroes
+abbrev pub full : ℕ → List ℕ
+full words = replicate words 7
 
 -- an append by full tick: start, duration and count
 abbrev pub appending : State → ℕ → ℕ → ℕ → State
@@ -95,7 +95,7 @@ abbrev pub headA : Head
 headA = headOf 10 100 30_000 10_000 0 0
 
 abbrev pub openA : State
-openA = opening headA 111 6
+openA = opening headA (tick 111) (full 6)
 
 abbrev pub firstA : State
 firstA = appending openA 111 40 1
@@ -108,7 +108,7 @@ abbrev pub headB : Head
 headB = headOf 1000 0 0 0 10_000 1
 
 abbrev pub openB : State
-openB = opening headB 0 3
+openB = opening headB (tick 0) (full 3)
 
 abbrev pub fiveB : State
 fiveB = appending openB 0 4000 5
@@ -132,7 +132,7 @@ abbrev pub headD : Head
 headD = headOf 3 0 0 500 0 0
 
 abbrev pub openD : State
-openD = opening headD 0 3
+openD = opening headD (tick 0) (full 3)
 
 abbrev pub oneD : State
 oneD = appending openD 0 1 1

@@ -1,8 +1,8 @@
--- Lists of calls, run by the very definitions that the contracts of `timeline` cite; which references they had accepted, and
--- the greatest clock that they had accepted. Paper: Append and trim.
-use Prim.Native.Nat.{ℕ, _≤_, max}
+-- A timeline's calls, run by the very definitions that the contracts of `timeline` cite: the opening, and then any list of
+-- appends and trims. Which appends they had accepted, which references those brought, and the greatest clock that they had
+-- accepted. Paper: Record and table; Append and trim.
+use Prim.Native.Nat.{ℕ, _+_, _*_, _≤_, max}
 use mathlib.Core.List.{List, [], _∷_, _++_}
-use lib.ListN.{replicate}
 use Rattle.units.specs.declared.Millis.{Millis}
 use Rattle.units.specs.declared.Stamp.{Stamp}
 use Rattle.units.specs.declared.Tick.{Tick}
@@ -12,11 +12,12 @@ use Rattle.units.specs.Limits.{largestSpan}
 use Rattle.units.specs.Standing.{tickStanding, stampStanding}
 use Rattle.window.specs.declared.Head.{Head}
 use Rattle.window.specs.declared.Reference.{Reference}
+use Rattle.runs.specs.Words.{repeated}
 use Rattle.agreement.specs.declared.Record.{Record}
 use Rattle.keeping.specs.declared.Outcome.{Outcome}
 use Rattle.keeping.specs.declared.Outcome.the-variants.{Accepted, Refused}
 use Rattle.keeping.specs.Joined.{given}
-use Rattle.timeline.specs.Opening.{freshRecord}
+use Rattle.timeline.specs.Opening.{openAnswer, openTable}
 use Rattle.timeline.specs.Appending.{appendOutcome, appendAnswer, appendTable}
 use Rattle.timeline.specs.Trimming.{trimOutcome, trimAnswer, trimTable}
 
@@ -38,9 +39,11 @@ pub record State : Type 0 where
   pub rec : Record
   pub words : List ℕ
 
--- what an accepted opening leaves
-abbrev pub opened : Head → Tick → ℕ → State
-opened h t words = record { rec = freshRecord h t; words = replicate words 0 }
+-- ---- what a call leaves
+
+-- the opening call, over a table that came with these words
+abbrev pub opening : Head → Tick → List ℕ → State
+opening h t came = record { rec = openAnswer h t .rec; words = openTable h t came }
 
 abbrev pub appendTo : State → Standing → ℕ → ℕ → State
 appendTo s st d n = record { rec = appendAnswer (s .rec) (s .words) st d n .rec; words = appendTable (s .rec) (s .words) st d n }
@@ -54,31 +57,64 @@ unfoldable pub run : State → List Call → State
 run s [] = s
 run s (c ∷ cs) = run (after s c) cs
 
--- what an accepted append brings, and nothing else does
-abbrev pub ifAccepted : Outcome → List Reference → List Reference
-ifAccepted Accepted rs = rs
-ifAccepted (Refused r) rs = []
+-- ---- what was accepted
+
+-- how a call ends
+abbrev pub outcomeOf : State → Call → Outcome
+outcomeOf s (byTick t d n) = appendOutcome (s .rec) (s .words) (tickStanding t (s .rec .next)) d n
+outcomeOf s (byStamp t d n) = appendOutcome (s .rec) (s .words) (stampStanding t (s .rec .next)) d n
+outcomeOf s (trimAt c) = trimOutcome (s .rec) (s .words) c
+
+-- what an accepted call brings, and a refused one does not
+abbrev pub ifAccepted : {A : Type 0} → Outcome → List A → List A
+ifAccepted Accepted xs = xs
+ifAccepted (Refused why) xs = []
+
+-- the references of an append: so many from the next tick on
+abbrev pub offered : State → Call → List Reference
+offered s (byTick t d n) = given (s .rec) d n
+offered s (byStamp t d n) = given (s .rec) d n
+offered s (trimAt c) = []
 
 abbrev pub brought : State → Call → List Reference
-brought s (byTick t d n) = ifAccepted (appendOutcome (s .rec) (s .words) (tickStanding t (s .rec .next)) d n) (given (s .rec) d n)
-brought s (byStamp t d n) = ifAccepted (appendOutcome (s .rec) (s .words) (stampStanding t (s .rec .next)) d n) (given (s .rec) d n)
-brought s (trimAt c) = []
+brought s c = ifAccepted (outcomeOf s c) (offered s c)
 
--- the clock of an accepted trim, and 0 elsewhere
-abbrev pub clockIf : Outcome → ℕ → ℕ
-clockIf Accepted c = c
-clockIf (Refused r) c = 0
-
-abbrev pub clockOf : State → Call → ℕ
-clockOf s (byTick t d n) = 0
-clockOf s (byStamp t d n) = 0
-clockOf s (trimAt c) = clockIf (trimOutcome (s .rec) (s .words) c) (c .0)
-
--- the accepted references of a list of calls, in order, and its greatest accepted clock
+-- the accepted references of a list of calls, in order
 unfoldable pub allAccepted : State → List Call → List Reference
 allAccepted s [] = []
 allAccepted s (c ∷ cs) = brought s c ++ allAccepted (after s c) cs
 
+-- an append as its user has it: a duration and a count
+pub record Append : Type 0 where
+  pub duration : ℕ
+  pub count : ℕ
+
+abbrev pub appendsOf : Call → List Append
+appendsOf (byTick t d n) = record { duration = d; count = n } ∷ []
+appendsOf (byStamp t d n) = record { duration = d; count = n } ∷ []
+appendsOf (trimAt c) = []
+
+-- the accepted appends of a list of calls, in order
+unfoldable pub acceptedAppends : State → List Call → List Append
+acceptedAppends s [] = []
+acceptedAppends s (c ∷ cs) = ifAccepted (outcomeOf s c) (appendsOf c) ++ acceptedAppends (after s c) cs
+
+-- the references of appends, laid end to start from tick t on
+unfoldable pub laidFrom : ℕ → List Append → List Reference
+laidFrom t [] = []
+laidFrom t (a ∷ rest) = repeated t (a .duration) (a .count) ++ laidFrom (t + a .duration * a .count) rest
+
+-- the clock of an accepted trim, and 0 elsewhere
+abbrev pub clockIf : Outcome → ℕ → ℕ
+clockIf Accepted c = c
+clockIf (Refused why) c = 0
+
+abbrev pub clockOf : State → Call → ℕ
+clockOf s (byTick t d n) = 0
+clockOf s (byStamp t d n) = 0
+clockOf s (trimAt c) = clockIf (outcomeOf s (trimAt c)) (c .0)
+
+-- the greatest accepted clock of a list of calls, 0 where no trim was accepted
 unfoldable pub greatest : State → List Call → ℕ
 greatest s [] = 0
 greatest s (c ∷ cs) = max (clockOf s c) (greatest (after s c) cs)
