@@ -5,10 +5,10 @@ use mathlib.Core.Path.{_≡_, refl, sym, ap, ap₂, subst, subst⁻¹, _∙_}
 use mathlib.Core.Bool.{true, false, cond, _||_}
 use mathlib.Core.List.{List, [], _∷_, _++_, append-nil, append-assoc}
 use Prim.Native.Nat.{ℕ, _+_, _-_, _*_, _/_, _≤_, max}
-use native.Mathlib.Nat.{le-max-left, max-zero, zero-max, le-refl, le-trans, le-antisymm, sub-zero}
+use native.Mathlib.Nat.{le-max-left, max-zero, zero-max, le-refl, le-antisymm, sub-zero}
 use native.Mathlib.Omega.{arith}
 use lib.Dec.{eqb}
-use lib.ListN.{length, take, drop, replicate, length-append, length-replicate}
+use lib.ListN.{length, drop, replicate, length-append, length-replicate}
 use Rattle.units.specs.declared.Millis.{Millis}
 use Rattle.units.specs.declared.Tick.{Tick}
 use Rattle.units.specs.declared.standing.Standing.{Standing}
@@ -22,26 +22,25 @@ use Rattle.runs.specs.Words as Words
 use Rattle.runs.specs.Encoding.{encode, tableOf, runsFor, canonical}
 use Rattle.runs.specs.Joining.{lastEnd}
 use Rattle.runs.proofs.Opening.{repeated-length}
-use Rattle.runs.proofs.Encoded.{runs-drop}
-use Rattle.runs.proofs.Joins.{join-append, each-append, join-drop, repeated-join, repeated-end, end-append}
-use Rattle.runs.proofs.Tables.{canonical-kept, canonical-length, used-fits}
+use Rattle.runs.proofs.Joins.{join-append, each-append, repeated-join, repeated-end, end-append}
+use Rattle.runs.proofs.Tables.{canonical-length}
 use Rattle.agreement.specs.declared.Record.{Record}
 use Rattle.agreement.specs.declared.refusal.Refusal.{Refusal}
 use Rattle.agreement.specs.declared.refusal.Refusal.the-variants.{Disagreement, NothingGiven, ClockLimit}
 use Rattle.agreement.specs.Agreement.{kept, agrees}
-use Rattle.agreement.proofs.Agreeing.{agree-shaped, agreeing}
+use Rattle.agreement.proofs.Agreeing.{agreeing}
 use Rattle.keeping.specs.declared.Outcome.{Outcome}
 use Rattle.keeping.specs.declared.Outcome.the-variants.{Accepted, Refused}
 use Rattle.keeping.specs.Keeping.{unspent, changedBy, wordsBy}
 use Rattle.keeping.specs.Joined.{given, allOf, leftOf, fitOutcome, appended}
-use Rattle.keeping.proofs.Unspent.{unspent-append, unspent-few, unspent-suffix}
+use Rattle.keeping.proofs.Unspent.{unspent-append, unspent-few}
 use Rattle.timeline.specs.Opening.{freshRecord, zeroRecord, openOutcome}
 use Rattle.timeline.specs.Appending.{joining, appendOutcome}
 use Rattle.timeline.specs.Trimming.{leftAt, trimOutcome, trimmed}
 use Rattle.timeline.proofs.Kept.{open-agrees, trim-keeps, Taken, taken, accepted-keeps}
 use Rattle.laws.specs.Calls.{Call, byTick, byStamp, trimAt, Plain, State, opening, appendTo, after, run, outcomeOf, ifAccepted, brought, allAccepted, Append, appendsOf, acceptedAppends, laidFrom, clockIf, clockOf, greatest}
 use Rattle.laws.specs.History.{StillNeeded, Picked, Holds, Mixings, Demand3}
-use Rattle.laws.proofs.Leaving.{unspent-raised, trim-small, each-sound, drop-counted, still}
+use Rattle.laws.proofs.Leaving.{unspent-raised, left-suffix, left-kept, trim-room, trim-small, each-sound, drop-counted, still}
 
 -- ---- the state of a history
 
@@ -75,13 +74,10 @@ module _ (h : Head) (t : Tick) (words : ℕ) where
 
   module _ (acc : List Reference) (c : ℕ) (fit : Fit acc c) where
     suffix : (n : ℕ) × (unspent h c acc ≡ drop n acc)
-    suffix = unspent-suffix h c (t .0) acc (fit .joined)
-
-    left-joined : Joined (lastEnd (t .0) (take (suffix .0) acc)) (unspent h c acc)
-    left-joined = subst⁻¹ (Joined (lastEnd (t .0) (take (suffix .0) acc))) (suffix .1) (join-drop (suffix .0) (t .0) acc (fit .joined))
+    suffix = left-suffix h c (t .0) acc (fit .joined)
 
     kept-is : kept (recordOf acc c) (wordsOf acc c) ≡ unspent h c acc
-    kept-is = canonical-kept (lastEnd (t .0) (take (suffix .0) acc)) words (unspent h c acc) left-joined
+    kept-is = left-kept h c (t .0) acc (fit .joined) words
 
     -- ---- an append
 
@@ -232,23 +228,17 @@ module _ (h : Head) (t : Tick) (words : ℕ) where
         kept-agrees : agrees (recordOf acc (max c (m .0))) (wordsOf acc (max c (m .0))) ≡ true
         kept-agrees = ap₂ agrees (sym trimmed-is) (sym trim-words) ∙ trim-keeps (recordOf acc c) (wordsOf acc c) m (fit .agreed) small
 
-        trim-room : runsFor (unspent h (max c (m .0)) acc) ≤ words / 3
-        trim-room =
-            let x = unspent-suffix h (max c (m .0)) (lastEnd (t .0) (take (suffix .0) acc)) (unspent h c acc) left-joined in
-            let fewer : runsFor (unspent h (max c (m .0)) (unspent h c acc)) ≤ runsFor (unspent h c acc) =
-            subst⁻¹ (λ rs. runsFor rs ≤ runsFor (unspent h c acc)) (x .1) (runs-drop (x .0) (unspent h c acc))
-            in
-            let there : runsFor (unspent h c acc) ≤ words / 3 =
-            subst (λ (k : ℕ). runsFor (unspent h c acc) ≤ k / 3) (fit .long)
-            (used-fits (runsFor (unspent h c acc)) (wordsOf acc c) (agree-shaped (recordOf acc c) (wordsOf acc c) (fit .agreed)))
-            in
-            subst (λ rs. runsFor rs ≤ words / 3) (unspent-raised h c (max c (m .0)) (le-max-left c (m .0)) acc) (le-trans fewer there)
+        room-left : runsFor (unspent h (max c (m .0)) acc) ≤ words / 3
+        room-left =
+            subst (λ rs. runsFor rs ≤ words / 3) less-is
+            (subst (λ (k : ℕ). runsFor (leftAt (recordOf acc c) (wordsOf acc c) (m .0)) ≤ k / 3) (fit .long)
+            (trim-room (recordOf acc c) (wordsOf acc c) (fit .agreed) (m .0)))
 
         trim-fit : Fit acc (max c (m .0))
         trim-fit =
             record {
               agreed = kept-agrees;
-              long = canonical-length words (unspent h (max c (m .0)) acc) trim-room;
+              long = canonical-length words (unspent h (max c (m .0)) acc) room-left;
               joined = fit .joined;
               sound = fit .sound;
             }

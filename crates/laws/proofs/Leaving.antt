@@ -1,28 +1,35 @@
 -- What is left of accepted references at a clock: of what was left before, the same, and exactly those that are still needed.
-use mathlib.Core.Path.{_≡_, refl, sym, ap, _∙_}
+use mathlib.Core.Path.{_≡_, refl, sym, ap, subst⁻¹, _∙_}
 use mathlib.Core.Bool.{Bool, true, false, cond, and-eq-true-iff, true≢false}
 use mathlib.Core.List.{List, [], _∷_}
-use Prim.Native.Nat.{ℕ, zero, suc, _+_, _-_, _≤_}
-use native.Mathlib.Nat.{sub-self}
+use Prim.Native.Nat.{ℕ, zero, suc, _+_, _-_, _/_, _≤_, max}
+use native.Mathlib.Nat.{sub-self, le-trans}
 use native.Mathlib.Omega.{arith}
 use borrow.Author.Tests.{leb-true}
-use lib.ListN.{length, drop, length-drop}
+use lib.ListN.{length, getD, take, drop, length-drop}
 use Rattle.units.specs.declared.Millis.{Millis}
 use Rattle.units.specs.Limits.{largestMillis, millisHeld}
 use Rattle.window.specs.declared.Head.{Head}
 use Rattle.window.specs.declared.Reference.{Reference}
 use Rattle.window.specs.Place.{beforeEnd}
 use Rattle.window.specs.Window.{endOf, passed}
-use Rattle.window.specs.References.{Each, Sound}
+use Rattle.window.specs.References.{Joined, Each, Sound}
 use Rattle.window.proofs.Spending.{passed-later, passed-spent, yet-needed}
-use Rattle.runs.specs.Words.{repeated}
+use Rattle.runs.specs.Words.{repeated, keptIn}
+use Rattle.runs.specs.Encoding.{runsFor, canonical}
+use Rattle.runs.specs.Joining.{lastEnd}
+use Rattle.runs.proofs.Encoded.{runs-drop}
+use Rattle.runs.proofs.Joins.{join-drop, kept-join}
+use Rattle.runs.proofs.Tables.{canonical-kept, runs-for-kept, used-fits}
 use Rattle.agreement.specs.declared.Record.{Record}
 use Rattle.agreement.specs.declared.refusal.Refusal.the-variants.{Disagreement, ClockLimit}
-use Rattle.agreement.specs.Agreement.{every, agrees}
+use Rattle.agreement.specs.Agreement.{kept, every, agrees}
+use Rattle.agreement.proofs.Agreeing.{agree-shaped}
 use Rattle.keeping.specs.declared.Outcome.the-variants.{Accepted, Refused}
 use Rattle.keeping.specs.Keeping.{unspent}
 use Rattle.keeping.proofs.Outcomes.{past-if}
-use Rattle.timeline.specs.Trimming.{trimOutcome}
+use Rattle.keeping.proofs.Unspent.{unspent-suffix}
+use Rattle.timeline.specs.Trimming.{leftAt, trimOutcome}
 use Rattle.laws.specs.History.{StillNeeded, Picked, end, kept-one, left-out}
 
 pub unspent-raised : (h : Head) (c d : ℕ) → c ≤ d → (rs : List Reference) → unspent h d (unspent h c rs) ≡ unspent h d rs
@@ -35,7 +42,32 @@ unspent-raised h c d l (r ∷ rs) = go (passed h (endOf r) c) refl (unspent-rais
     go true e k = k ∙ sym (ap (λ u. cond u (unspent h d rs) (r ∷ unspent h d rs)) (passed-later h (endOf r) c d l e))
     go false e k = ap (λ xs. cond (passed h (endOf r) d) xs (r ∷ xs)) k
 
--- an accepted trim had a clock within its limit
+-- what is left of joined references stands behind the rest, joins, takes no more runs, and its canonical table keeps just it
+module _ (h : Head) (c t : ℕ) (rs : List Reference) (joined : Joined t rs) where
+  pub left-suffix : (n : ℕ) × (unspent h c rs ≡ drop n rs)
+  left-suffix = unspent-suffix h c t rs joined
+
+  left-joined : Joined (lastEnd t (take (left-suffix .0) rs)) (unspent h c rs)
+  left-joined = subst⁻¹ (Joined (lastEnd t (take (left-suffix .0) rs))) (left-suffix .1) (join-drop (left-suffix .0) t rs joined)
+
+  pub left-fewer : runsFor (unspent h c rs) ≤ runsFor rs
+  left-fewer = subst⁻¹ (λ xs. runsFor xs ≤ runsFor rs) (left-suffix .1) (runs-drop (left-suffix .0) rs)
+
+  pub left-kept : (words : ℕ) → keptIn (runsFor (unspent h c rs)) (canonical words (unspent h c rs)) ≡ unspent h c rs
+  left-kept words = canonical-kept (lastEnd t (take (left-suffix .0) rs)) words (unspent h c rs) left-joined
+
+-- what a trim leaves finds room in the table that it came from
+pub trim-room : (rec : Record) (ws : List ℕ) → agrees rec ws ≡ true → (c : ℕ) → runsFor (leftAt rec ws c) ≤ length ws / 3
+trim-room rec ws a c =
+    let t = agree-shaped rec ws a in
+    le-trans (left-fewer (rec .head) (max (rec .clock .0) c) (getD ws 0 0) (kept rec ws) (kept-join (rec .used) ws t))
+    (subst⁻¹ (λ (n : ℕ). n ≤ length ws / 3) (runs-for-kept (rec .used) ws t) (used-fits (rec .used) ws t))
+
+-- an accepted trim had a record and a table that agree, and a clock within its limit
+pub trim-agreed : (rec : Record) (ws : List ℕ) (m : Millis) → trimOutcome rec ws m ≡ Accepted → agrees rec ws ≡ true
+unfolding trimOutcome
+trim-agreed rec ws m e = past-if (agrees rec ws) (cond (millisHeld m) Accepted (Refused ClockLimit)) Disagreement e .0
+
 pub trim-small : (rec : Record) (ws : List ℕ) (m : Millis) → trimOutcome rec ws m ≡ Accepted → m .0 ≤ largestMillis
 unfolding trimOutcome
 trim-small rec ws m e =

@@ -2,6 +2,8 @@
 pub mod ByHand
 pub mod Leaving
 pub mod Histories
+pub mod Listed
+pub mod Spent
 pub mod Verdicts
 pub mod Offers
 pub mod Files

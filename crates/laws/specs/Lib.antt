@@ -3,5 +3,6 @@ pub mod Calls
 pub mod Demand2
 pub mod History
 pub mod Refusals
+pub mod Spent
 pub mod Unique
 pub mod Demand1
