@@ -1,13 +1,13 @@
 -- The by-hand table holds. The calls compute: each state is the one before it after one call. Verdicts come from the closed
 -- forms of the counts, and what speaks of every tick from the laws of the window.
-use Prim.Native.Nat.{ℕ}
+use Prim.Native.Nat.{ℕ, _≤_, _<_}
 use mathlib.Core.Path.{_≡_, refl, sym, ap, ap₂, _∙_}
 use mathlib.Core.Bool.{true, cond}
-use mathlib.Core.List.{List, [], _∷_}
+use mathlib.Core.List.{List, [], _∷_, _++_}
 use native.Mathlib.Omega.{arith}
-use borrow.Author.Tests.{eqb-false}
+use borrow.Author.Tests.{eqb-false, lt-leb}
 use lib.Dec.{lit<, lit≤, leb}
-use lib.ListN.{getD, replicate}
+use lib.ListN.{length, getD, drop, replicate}
 use Rattle.units.specs.Limits.{millisHeld}
 use Rattle.units.specs.Standing.{less32}
 use Rattle.units.specs.declared.Millis.{Millis}
@@ -22,7 +22,7 @@ use Rattle.runs.specs.Shape.{runsShaped, zeros}
 use Rattle.runs.specs.Joining.{lastEnd}
 use Rattle.runs.specs.Encoding.{push, encode, tableOf}
 use Rattle.agreement.specs.declared.Record.{Record}
-use Rattle.agreement.specs.declared.refusal.Refusal.the-variants.{Disagreement, ClockLimit, EarlierClock, EndUnknown}
+use Rattle.agreement.specs.declared.refusal.Refusal.the-variants.{Disagreement, ClockLimit, EarlierClock, ShortOutput, EndUnknown}
 use Rattle.agreement.specs.Agreement.{every, agrees, kept}
 use Rattle.keeping.specs.declared.Outcome.the-variants as outcome
 use Rattle.keeping.specs.Keeping.{unspent, changedBy, wordsBy, outcomeNumber}
@@ -43,12 +43,17 @@ use Rattle.hex.specs.Digits as hex
 use Rattle.frames.specs.Fields as fields
 use Rattle.frames.specs.Frames as frames
 use Rattle.frames.specs.Worked.{bytesOf}
+use Rattle.file.specs.declared.WriteAnswer.the-variants.{Written, Refused as NotWritten}
 use Rattle.file.specs.Lines.{linesFrom, restFrom}
 use Rattle.file.specs.Least.{leastFrom, leastCount}
 use Rattle.file.specs.Judging as judging
 use Rattle.file.specs.Judging.{readAnswer, readTable}
+use Rattle.file.specs.Writing as writing
+use Rattle.file.specs.Writing.{fileFor, writeAnswer, writeNumber, outputBy}
 use Rattle.laws.specs.Calls.{State}
-use Rattle.laws.specs.ByHand.{ByHand, wide, millis, number, headA, headB, headD, appending, outcomeOf, trimming, trimOf, bothA, fiveB, trimB1, trimB2, trimB3, oneD, twoD, fileD, stateOf}
+use Rattle.laws.specs.ByHand.{ByHand, wide, millis, number, headA, headB, headD, appending, appendOf, trimming, trimOf, bothA, fiveB, trimB1, trimB2, trimB3, headLineB, fileB, oneD, twoD, fileD, stateOf}
+use Rattle.laws.specs.Demand2.{output}
+use Rattle.laws.proofs.Files.{written}
 
 -- ---- the states that the calls leave
 
@@ -76,7 +81,7 @@ stateD2 = stateOf headD 2 0 2 0 1 (0 ∷ 1 ∷ 2 ∷ [])
 -- each call from the state that stands before it
 record Steps : Type 0 where
   a : bothA ≡ stateA
-  a-gap : outcomeNumber (outcomeOf stateA 170 10 1) ≡ 4
+  a-gap : outcomeNumber (appendOf stateA 170 10 1) ≡ 4
   b : fiveB ≡ stateB
   b-13999 : trimOf stateB 13_999 ≡ outcome.Accepted
   b-none : trimming stateB 13_999 ≡ stateB1
@@ -88,9 +93,9 @@ record Steps : Type 0 where
   b-14001-alone : trimming stateB 14_001 ≡ stateOf headB 5 1 20_000 14_001 1 (4000 ∷ 4000 ∷ 4 ∷ [])
   b-18000-alone : trimming stateB 18_000 ≡ stateB3
   d-one : oneD ≡ stateD1
-  d-first : outcomeOf stateD1 1 1 1 ≡ outcome.Accepted
+  d-first : appendOf stateD1 1 1 1 ≡ outcome.Accepted
   d-two : appending stateD1 1 1 1 ≡ stateD2
-  d-past : outcomeNumber (outcomeOf stateD2 2 1 1) ≡ 8
+  d-past : outcomeNumber (appendOf stateD2 2 1 1) ≡ 8
 
 steps : Steps
 unfolding agrees runsOf wordsOf repeated referencesOf runsShaped zeros lastEnd every place moment periodEnd lowEdge push encode tableOf unspent changedBy wordsBy openOutcome roomOutcome fitOutcome appendOutcome trimOutcome
@@ -136,6 +141,34 @@ record Agree : Type 0 where
 agreed : Agree
 unfolding agrees runsOf repeated referencesOf runsShaped zeros lastEnd every place moment periodEnd lowEdge
 agreed = record { a = refl; b = refl; b-after = refl; d-one = refl; d-two = refl }
+
+-- ---- the file of case B
+
+record Wrote : Type 0 where
+  bytes : fileFor (stateB3 .rec) (stateB3 .words) ≡ fileB
+  long : length fileB ≡ 129
+  head-line : length headLineB ≡ 82
+
+wrote : Wrote
+unfolding runsOf repeated referencesOf push encode writing.fileOf writing.sFrames writing.laterFrames writing.bytesOf frames.endedLine frames.lineOf fields.fieldDigits hex.digitsOf hex.digitOf bytesOf
+wrote = record { bytes = refl; long = refl; head-line = refl }
+
+b-written : (room : ℕ) → 129 ≤ room → writeAnswer (stateB3 .rec) (stateB3 .words) room ≡ Written 129
+b-written room l =
+    written (stateB3 .rec) (stateB3 .words) room 129 .if
+    (record { agreed = agreed .b-after; some = lit≤ tt; long = sym (ap length (wrote .bytes) ∙ wrote .long); fits = l })
+
+b-output : (out : List ℕ) → 129 ≤ length out → output (stateB3 .rec) (stateB3 .words) out ≡ fileB ++ drop 129 out
+unfolding outputBy
+b-output out l = ap₂ (λ y bytes. outputBy y bytes out) (b-written (length out) l) (wrote .bytes)
+
+b-short : (room : ℕ) → room < 129 → writeNumber (writeAnswer (stateB3 .rec) (stateB3 .words) room) ≡ 15
+unfolding writeAnswer
+b-short room l =
+    ap (λ x. writeNumber (cond x (cond (leb (length (fileFor (stateB3 .rec) (stateB3 .words))) room) (Written (length (fileFor (stateB3 .rec) (stateB3 .words)))) (NotWritten ShortOutput)) (NotWritten Disagreement)))
+    (agreed .b-after) ∙
+    ap (λ (n : ℕ). writeNumber (cond (leb n room) (Written n) (NotWritten ShortOutput))) (ap length (wrote .bytes) ∙ wrote .long) ∙
+    ap (λ x. writeNumber (cond x (Written 129) (NotWritten ShortOutput))) (lt-leb 129 room l)
 
 -- ---- a verdict by its ranges
 
@@ -187,7 +220,7 @@ by-hand =
       a-second = refl;
       a-next = refl;
       a-state = steps .a;
-      a-gap = ap (λ s. outcomeNumber (outcomeOf s 170 10 1)) (steps .a) ∙ steps .a-gap;
+      a-gap = ap (λ s. outcomeNumber (appendOf s 170 10 1)) (steps .a) ∙ steps .a-gap;
       a-available =
           ap (λ s. availabilityIn (s .rec) (s .words) (number 0)) (steps .a) ∙
           ap (λ t. cond t (numberAvailability headA (keptNumber (stateA .rec) (stateA .words) 0)) (answer.Refused Disagreement)) (agreed .a);
@@ -225,11 +258,22 @@ by-hand =
       b-available-after =
           ap (λ s. availabilityIn (s .rec) (s .words) (number 3)) b-two ∙
           ap (λ t. cond t (numberAvailability headB (keptNumber (stateB3 .rec) (stateB3 .words) 3)) (answer.Refused Disagreement)) (agreed .b-after);
+      b-head-line = wrote .head-line;
+      b-written = λ out l. ap (λ s. writeAnswer (s .rec) (s .words) (length out)) b-two ∙ b-written (length out) l;
+      b-file = λ out l. ap (λ s. output (s .rec) (s .words) out) b-two ∙ b-output out l;
+      b-short = λ room l. ap (λ s. writeNumber (writeAnswer (s .rec) (s .words) room)) b-two ∙ b-short room l;
       c-joins = refl;
       c-gap = refl;
       c-overlap = refl;
       c-last-gap = refl;
       c-first-overlap = refl;
+      c-open = refl;
+      c-2704 = refl;
+      c-2705 = refl;
+      c-2703 = refl;
+      c-2147486351 = refl;
+      c-2147486352 = refl;
+      c-state = refl;
       d-open = refl;
       d-needed = ticks-needed headD 0 1500 (omega arith);
       d-one = refl;
@@ -240,12 +284,12 @@ by-hand =
           (end-lacking 0 2 0 1 (lit< tt) 0 1 refl refl (eqb-false 1 2 refl) (lit< tt) (lit≤ tt));
       d-read = file .answer ∙ ap (λ s. record { outcome = outcome.Accepted; rec = s .rec; line = 0 }) (sym d-two);
       d-table = file .table ∙ ap (λ s. s .words) (sym d-two);
-      d-two = ap (λ s. outcomeOf s 1 1 1) (steps .d-one) ∙ steps .d-first;
+      d-two = ap (λ s. appendOf s 1 1 1) (steps .d-one) ∙ steps .d-first;
       d-state = d-two;
       d-complete =
           ap (λ s. verdictWhole (s .rec) (s .words)) d-two ∙
           by-period (stateD2 .rec) (stateD2 .words) (agreed .d-two) one-run refl (needed.Ticks (wide 0) (wide 2)) (Complete 2)
           (period-ticks headD (lit< tt))
           (all-covered 0 2 0 2 (lit< tt) 0 2 refl refl refl);
-      d-past = ap (λ s. outcomeNumber (outcomeOf s 2 1 1)) d-two ∙ steps .d-past;
+      d-past = ap (λ s. outcomeNumber (appendOf s 2 1 1)) d-two ∙ steps .d-past;
     }

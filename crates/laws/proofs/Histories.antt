@@ -42,6 +42,24 @@ use Rattle.laws.specs.Calls.{Call, byTick, byStamp, trimAt, Plain, State
 use Rattle.laws.specs.History.{StillNeeded, Picked, Holds, Mixings, Demand3}
 use Rattle.laws.proofs.Leaving.{unspent-raised, left-suffix, left-kept, trim-room, trim-small, each-sound, drop-counted, still}
 
+-- ---- what a call answers
+
+told : (o : Outcome) (new old : Record) → o ≡ changedBy o new old .outcome
+unfolding changedBy
+told Accepted new old = refl
+told (Refused why) new old = refl
+
+-- by which test a call ends
+abbrev tested : State → Call → Outcome
+tested s (byTick x d n) = appendOutcome (s .rec) (s .words) (tickStanding x (s .rec .next)) d n
+tested s (byStamp x d n) = appendOutcome (s .rec) (s .words) (stampStanding x (s .rec .next)) d n
+tested s (trimAt m) = trimOutcome (s .rec) (s .words) m
+
+answered : (s : State) (c : Call) → tested s c ≡ outcomeOf s c
+answered s (byTick x d n) = told (tested s (byTick x d n)) (appended (s .rec) (s .words) d n) (s .rec)
+answered s (byStamp x d n) = told (tested s (byStamp x d n)) (appended (s .rec) (s .words) d n) (s .rec)
+answered s (trimAt m) = told (tested s (trimAt m)) (trimmed (s .rec) (s .words) (m .0)) (s .rec)
+
 -- ---- the state of a history
 
 abbrev stateFrom : Record → List ℕ → State
@@ -289,20 +307,21 @@ module _ (h : Head) (t : Tick) (words : ℕ) where
 
   next-call : (acc : List Reference) (c : ℕ) → Fit acc c → (call : Call) → Plain (call ∷ []) → Next acc c call
   next-call acc c f (byTick x d n) p =
-      let st = tickStanding x (recordOf acc c .next) in
-      let k = next-append acc c f st d n (p .0) (appendOutcome (recordOf acc c) (wordsOf acc c) st d n) refl in
+      let s = stateOf acc c in
+      let k = next-append acc c f (tickStanding x (s .rec .next)) d n (p .0) (outcomeOf s (byTick x d n)) (answered s (byTick x d n)) in
       record { state = k .0; fits = k .1 }
   next-call acc c f (byStamp x d n) p =
-      let st = stampStanding x (recordOf acc c .next) in
-      let k = next-append acc c f st d n (p .0) (appendOutcome (recordOf acc c) (wordsOf acc c) st d n) refl in
+      let s = stateOf acc c in
+      let k = next-append acc c f (stampStanding x (s .rec .next)) d n (p .0) (outcomeOf s (byStamp x d n)) (answered s (byStamp x d n)) in
       record { state = k .0; fits = k .1 }
   next-call acc c f (trimAt m) p =
-      let none : acc ++ brought (stateOf acc c) (trimAt m) ≡ acc ++ [] = ap (λ xs. acc ++ xs) (none-brought (trimOutcome (recordOf acc c) (wordsOf acc c) m)) in
-      let k = next-trim acc c f m (trimOutcome (recordOf acc c) (wordsOf acc c) m) refl in
-      let clock = max c (clockOf (stateOf acc c) (trimAt m)) in
+      let s = stateOf acc c in
+      let none : acc ++ brought s (trimAt m) ≡ acc ++ [] = ap (λ xs. acc ++ xs) (none-brought (outcomeOf s (trimAt m))) in
+      let k = next-trim acc c f m (outcomeOf s (trimAt m)) (answered s (trimAt m)) in
+      let clock = max c (clockOf s (trimAt m)) in
       record {
         state = k .0 ∙ ap (λ xs. stateOf xs clock) (sym none);
-        fits = same-history (acc ++ []) (acc ++ brought (stateOf acc c) (trimAt m)) clock clock (sym none) refl (k .1);
+        fits = same-history (acc ++ []) (acc ++ brought s (trimAt m)) clock clock (sym none) refl (k .1);
       }
 
   -- THE LAW: a list of calls takes the state of a history to the state of the longer history
@@ -442,9 +461,9 @@ module _ (s : State) where
   laid-trim m (Refused why) e rest xs k = k ∙ ap (λ x. laidFrom (changedBy x (trimmed (s .rec) (s .words) (m .0)) (s .rec) .rec .next .0) rest) e
 
   laid-call : (c : Call) → LaidBehind (brought s c) (after s c) (ifAccepted (outcomeOf s c) (appendsOf c))
-  laid-call (byTick x d n) = laid-append (tickStanding x (s .rec .next)) d n (outcomeOf s (byTick x d n)) refl
-  laid-call (byStamp x d n) = laid-append (stampStanding x (s .rec .next)) d n (outcomeOf s (byStamp x d n)) refl
-  laid-call (trimAt m) = laid-trim m (outcomeOf s (trimAt m)) refl
+  laid-call (byTick x d n) = laid-append (tickStanding x (s .rec .next)) d n (outcomeOf s (byTick x d n)) (answered s (byTick x d n))
+  laid-call (byStamp x d n) = laid-append (stampStanding x (s .rec .next)) d n (outcomeOf s (byStamp x d n)) (answered s (byStamp x d n))
+  laid-call (trimAt m) = laid-trim m (outcomeOf s (trimAt m)) (answered s (trimAt m))
 
 -- from any record and table
 laid-out : (s : State) (cs : List Call) → allAccepted s cs ≡ laidFrom (s .rec .next .0) (acceptedAppends s cs)
@@ -490,9 +509,12 @@ module _ (came : List ℕ) where
   never-trim m = ap (λ b. cond b (cond (millisHeld m) Accepted (Refused ClockLimit)) (Refused Disagreement)) zero-disagrees
 
   never : (c : Call) → outcomeOf zeroed c ≡ Refused Disagreement
-  never (byTick x d n) = never-append (tickStanding x (zeroRecord .next)) d n
-  never (byStamp x d n) = never-append (stampStanding x (zeroRecord .next)) d n
-  never (trimAt m) = never-trim m
+  never c = sym (answered zeroed c) ∙ go c
+    where
+      go : (c : Call) → tested zeroed c ≡ Refused Disagreement
+      go (byTick x d n) = never-append (tickStanding x (zeroRecord .next)) d n
+      go (byStamp x d n) = never-append (stampStanding x (zeroRecord .next)) d n
+      go (trimAt m) = never-trim m
 
   stays-append : (st : Standing) (d n : ℕ) → appendTo zeroed st d n ≡ zeroed
   unfolding changedBy wordsBy

@@ -1,10 +1,10 @@
 -- The cases that the paper works by hand, as one table of equations over the very definitions that the contracts cite: from an
 -- opening, call by call, with the record and the table that each leaves. Paper: By hand; Errors we expect someone to make.
-use Prim.Native.Nat.{ℕ}
+use Prim.Native.Nat.{ℕ, _≤_, _<_}
 use mathlib.Core.Path.{_≡_}
 use mathlib.Core.List.{List, [], _∷_, _++_}
 use lib.IntN.{pos}
-use lib.ListN.{replicate}
+use lib.ListN.{length, drop, replicate}
 use Rattle.units.specs.declared.Grain.{Grain}
 use Rattle.units.specs.declared.Millis.{Millis}
 use Rattle.units.specs.declared.Number.{Number}
@@ -12,7 +12,7 @@ use Rattle.units.specs.declared.Stamp.{Stamp}
 use Rattle.units.specs.declared.Tick.{Tick}
 use Rattle.units.specs.declared.WideTick.{WideTick}
 use Rattle.units.specs.declared.standing.Standing.the-variants.{Joins, Gap, Overlap}
-use Rattle.units.specs.Standing.{tickStanding, stampStanding}
+use Rattle.units.specs.Standing.{stampStanding}
 use Rattle.window.specs.declared.Head.{Head}
 use Rattle.window.specs.declared.Needed.the-variants.{Ticks}
 use Rattle.window.specs.Window.{wholePeriod}
@@ -21,8 +21,6 @@ use Rattle.keeping.specs.declared.Outcome.{Outcome}
 use Rattle.keeping.specs.declared.Outcome.the-variants.{Accepted}
 use Rattle.keeping.specs.Keeping.{outcomeNumber}
 use Rattle.timeline.specs.Opening.{openAnswer}
-use Rattle.timeline.specs.Appending.{appendAnswer}
-use Rattle.timeline.specs.Trimming.{trimAnswer}
 use Rattle.answers.specs.declared.Verdict.the-variants.{Nothing, Complete, Lacking}
 use Rattle.answers.specs.declared.Percent.the-variants.{Of}
 use Rattle.answers.specs.declared.Availability.the-variants.{Ends, NeverEnds}
@@ -30,8 +28,11 @@ use Rattle.answers.specs.Judgement.{verdictAt, verdictWhole}
 use Rattle.answers.specs.Shares.{verdictPercent}
 use Rattle.answers.specs.Available.{availabilityIn}
 use Rattle.frames.specs.Worked.{bytesOf}
+use Rattle.file.specs.declared.WriteAnswer.the-variants.{Written}
 use Rattle.file.specs.Judging.{readAnswer, readTable}
-use Rattle.laws.specs.Calls.{State, opening, byTick, trimAt, after}
+use Rattle.file.specs.Writing.{writeAnswer, writeNumber}
+use Rattle.laws.specs.Calls.{State, opening, byTick, byStamp, trimAt, after, outcomeOf}
+use Rattle.laws.specs.Demand2.{output}
 
 -- ---- numbers as what they count
 
@@ -75,14 +76,22 @@ full words = replicate words 7
 abbrev pub appending : State → ℕ → ℕ → ℕ → State
 appending s t d n = after s (byTick (wide t) d n)
 
-abbrev pub outcomeOf : State → ℕ → ℕ → ℕ → Outcome
-outcomeOf s t d n = appendAnswer (s .rec) (s .words) (tickStanding (wide t) (s .rec .next)) d n .outcome
+-- the same by stamp
+abbrev pub stamping : State → ℕ → ℕ → ℕ → State
+stamping s x d n = after s (byStamp (stamp x) d n)
+
+-- what each answers
+abbrev pub appendOf : State → ℕ → ℕ → ℕ → Outcome
+appendOf s t d n = outcomeOf s (byTick (wide t) d n)
+
+abbrev pub stampOf : State → ℕ → ℕ → ℕ → Outcome
+stampOf s x d n = outcomeOf s (byStamp (stamp x) d n)
 
 abbrev pub trimming : State → ℕ → State
 trimming s c = after s (trimAt (millis c))
 
 abbrev pub trimOf : State → ℕ → Outcome
-trimOf s c = trimAnswer (s .rec) (s .words) (millis c) .outcome
+trimOf s c = outcomeOf s (trimAt (millis c))
 
 -- head, accepted, dropped, next tick, greatest clock, used runs, and the words
 abbrev pub stateOf : Head → ℕ → ℕ → ℕ → ℕ → ℕ → List ℕ → State
@@ -123,9 +132,22 @@ trimB2 = trimming trimB1 14_000
 abbrev pub trimB3 : State
 trimB3 = trimming trimB2 18_000
 
--- C: the next tick
+-- B as a file after those trims: three lines, each ended by a line feed
+abbrev pub headLineB : List ℕ
+headLineB = bytesOf "01000003e8000000000000000000000000000000000000000000000000000000000000271000000003"
+
+abbrev pub fileB : List ℕ
+fileB = headLineB ++ 10 ∷ bytesOf "020000000000001f4000000fa000000002" ++ 10 ∷ bytesOf "0300000001" ++ 10 ∷ []
+
+-- C: the next tick, as the first tick of an opening
 abbrev pub nextC : Tick
 nextC = tick 4_294_970_000
+
+abbrev pub headC : Head
+headC = headOf 1000 0 0 0 0 0
+
+abbrev pub openC : State
+openC = opening headC nextC (full 3)
 
 -- D: references of one tick from tick 0; the period ends inside tick 1
 abbrev pub headD : Head
@@ -154,17 +176,17 @@ fileD =
 pub record ByHand : Type 0 where
   -- A: both appends are accepted, and the next tick is 161; a start of 170 is refusal 4
   pub a-open : openAnswer headA (tick 111) .outcome ≡ Accepted
-  pub a-first : outcomeOf openA 111 40 1 ≡ Accepted
-  pub a-second : outcomeOf firstA 151 10 1 ≡ Accepted
+  pub a-first : appendOf openA 111 40 1 ≡ Accepted
+  pub a-second : appendOf firstA 151 10 1 ≡ Accepted
   pub a-next : bothA .rec .next ≡ tick 161
   pub a-state : bothA ≡ stateOf headA 2 0 161 0 2 (111 ∷ 40 ∷ 1 ∷ 151 ∷ 10 ∷ 1 ∷ [])
-  pub a-gap : outcomeNumber (outcomeOf bothA 170 10 1) ≡ 4
+  pub a-gap : outcomeNumber (appendOf bothA 170 10 1) ≡ 4
   -- A: the first is available from 35.1 s on; the whole period needs 100 ticks, 50 are covered, and tick 100 is lacking
   pub a-available : availabilityIn (bothA .rec) (bothA .words) (number 0) ≡ NeverEnds (grains 351_000)
   pub a-whole : verdictWhole (bothA .rec) (bothA .words) ≡ Lacking 100 50 (wide 100)
   -- B: one append brings all five
   pub b-open : openAnswer headB (tick 0) .outcome ≡ Accepted
-  pub b-append : outcomeOf openB 0 4000 5 ≡ Accepted
+  pub b-append : appendOf openB 0 4000 5 ≡ Accepted
   pub b-state : fiveB ≡ stateOf headB 5 0 20_000 0 1 (0 ∷ 4000 ∷ 5 ∷ [])
   -- B: a trim at 13,999 drops none, one at 14,000 then one, and one at 18,000 then two in all
   pub b-13999 : trimOf fiveB 13_999 ≡ Accepted
@@ -185,22 +207,36 @@ pub record ByHand : Type 0 where
   -- B: when number 3 is available, before the trims and after them
   pub b-available : availabilityIn (fiveB .rec) (fiveB .words) (number 3) ≡ Ends (grains 12_000_000) (grains 26_000_000)
   pub b-available-after : availabilityIn (trimB3 .rec) (trimB3 .words) (number 3) ≡ Ends (grains 12_000_000) (grains 26_000_000)
+  -- B: writing gives the paper's file after the last trim, byte for byte, in any output that has room for it; what stands
+  -- behind it stays as it came, and a shorter output is refusal 15. Its first line has 82 digits
+  pub b-head-line : length headLineB ≡ 82
+  pub b-written : (out : List ℕ) → 129 ≤ length out → writeAnswer (trimB3 .rec) (trimB3 .words) (length out) ≡ Written 129
+  pub b-file : (out : List ℕ) → 129 ≤ length out → output (trimB3 .rec) (trimB3 .words) out ≡ fileB ++ drop 129 out
+  pub b-short : (room : ℕ) → room < 129 → writeNumber (writeAnswer (trimB3 .rec) (trimB3 .words) room) ≡ 15
   -- C: stamps around the next tick, and at half of the circle
   pub c-joins : stampStanding (stamp 2704) nextC ≡ Joins
   pub c-gap : stampStanding (stamp 2705) nextC ≡ Gap
   pub c-overlap : stampStanding (stamp 2703) nextC ≡ Overlap
   pub c-last-gap : stampStanding (stamp 2_147_486_351) nextC ≡ Gap
   pub c-first-overlap : stampStanding (stamp 2_147_486_352) nextC ≡ Overlap
+  -- C: the same stamps as appends: 0 where it joins, 4 at a gap, 5 at an overlap
+  pub c-open : openAnswer headC nextC .outcome ≡ Accepted
+  pub c-2704 : outcomeNumber (stampOf openC 2704 1000 1) ≡ 0
+  pub c-2705 : outcomeNumber (stampOf openC 2705 1000 1) ≡ 4
+  pub c-2703 : outcomeNumber (stampOf openC 2703 1000 1) ≡ 5
+  pub c-2147486351 : outcomeNumber (stampOf openC 2_147_486_351 1000 1) ≡ 4
+  pub c-2147486352 : outcomeNumber (stampOf openC 2_147_486_352 1000 1) ≡ 5
+  pub c-state : stamping openC 2704 1000 1 ≡ stateOf headC 1 0 4_294_971_000 0 1 (4_294_970_000 ∷ 1000 ∷ 1 ∷ [])
   -- D: ticks 0 and 1 are needed, and with one reference of 1 tick 1 is lacking
   pub d-open : openAnswer headD (tick 0) .outcome ≡ Accepted
   pub d-needed : NeededTicks headD (wholePeriod headD) (Ticks (wide 0) (wide 2))
-  pub d-one : outcomeOf openD 0 1 1 ≡ Accepted
+  pub d-one : appendOf openD 0 1 1 ≡ Accepted
   pub d-lacking : verdictWhole (oneD .rec) (oneD .words) ≡ Lacking 2 1 (wide 1)
   -- D: the file with the negative r gives two references
   pub d-read : readAnswer fileD (replicate 3 0) ≡ record { outcome = Accepted; rec = twoD .rec; line = 0 }
   pub d-table : readTable fileD (replicate 3 0) ≡ twoD .words
   -- D: after two references of 1 the period is complete, and an append with start 2 is refusal 8
-  pub d-two : outcomeOf oneD 1 1 1 ≡ Accepted
+  pub d-two : appendOf oneD 1 1 1 ≡ Accepted
   pub d-state : twoD ≡ stateOf headD 2 0 2 0 1 (0 ∷ 1 ∷ 2 ∷ [])
   pub d-complete : verdictWhole (twoD .rec) (twoD .words) ≡ Complete 2
-  pub d-past : outcomeNumber (outcomeOf twoD 2 1 1) ≡ 8
+  pub d-past : outcomeNumber (appendOf twoD 2 1 1) ≡ 8

@@ -18,8 +18,8 @@ use Rattle.keeping.specs.declared.Outcome.{Outcome}
 use Rattle.keeping.specs.declared.Outcome.the-variants.{Accepted, Refused}
 use Rattle.keeping.specs.Joined.{given}
 use Rattle.timeline.specs.Opening.{openAnswer, openTable}
-use Rattle.timeline.specs.Appending.{appendOutcome, appendAnswer, appendTable}
-use Rattle.timeline.specs.Trimming.{trimOutcome, trimAnswer, trimTable}
+use Rattle.timeline.specs.Appending.{appendAnswer, appendTable}
+use Rattle.timeline.specs.Trimming.{trimAnswer, trimTable}
 
 -- an append by full tick or by stamp, each with a duration and a count, and a trim
 pub data Call : Type 0 where
@@ -59,11 +59,11 @@ run s (c ∷ cs) = run (after s c) cs
 
 -- ---- what was accepted
 
--- how a call ends
+-- what a call answers
 abbrev pub outcomeOf : State → Call → Outcome
-outcomeOf s (byTick t d n) = appendOutcome (s .rec) (s .words) (tickStanding t (s .rec .next)) d n
-outcomeOf s (byStamp t d n) = appendOutcome (s .rec) (s .words) (stampStanding t (s .rec .next)) d n
-outcomeOf s (trimAt c) = trimOutcome (s .rec) (s .words) c
+outcomeOf s (byTick t d n) = appendAnswer (s .rec) (s .words) (tickStanding t (s .rec .next)) d n .outcome
+outcomeOf s (byStamp t d n) = appendAnswer (s .rec) (s .words) (stampStanding t (s .rec .next)) d n .outcome
+outcomeOf s (trimAt c) = trimAnswer (s .rec) (s .words) c .outcome
 
 -- what an accepted call brings, and a refused one does not
 abbrev pub ifAccepted : {A : Type 0} → Outcome → List A → List A
