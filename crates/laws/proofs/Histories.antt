@@ -2,18 +2,17 @@
 -- gives the state of a history, every accepted call takes it to the state of the longer history, and every refused call
 -- leaves it.
 use mathlib.Core.Path.{_≡_, refl, sym, ap, ap₂, subst, subst⁻¹, _∙_}
-use mathlib.Core.Bool.{true, false, cond, _||_}
+use mathlib.Core.Bool.{true}
 use mathlib.Core.List.{List, [], _∷_, _++_, append-nil, append-assoc}
 use Prim.Native.Nat.{ℕ, _+_, _-_, _*_, _/_, _≤_, max}
 use native.Mathlib.Nat.{le-max-left, max-zero, zero-max, le-refl, le-antisymm, sub-zero}
 use native.Mathlib.Omega.{arith}
-use lib.Dec.{eqb}
 use lib.ListN.{length, drop, replicate, length-append, length-replicate}
 use Rattle.units.specs.declared.Millis.{Millis}
 use Rattle.units.specs.declared.Tick.{Tick}
 use Rattle.units.specs.declared.standing.Standing.{Standing}
 use Rattle.units.specs.Standing.{tickStanding, stampStanding}
-use Rattle.units.specs.Limits.{largestSpan, largestMillis, millisHeld}
+use Rattle.units.specs.Limits.{largestSpan, largestMillis}
 use Rattle.window.specs.declared.Head.{Head}
 use Rattle.window.specs.declared.Reference.{Reference}
 use Rattle.window.specs.References.{Joined, Each, Sound}
@@ -26,44 +25,23 @@ use Rattle.runs.proofs.Joins.{join-append, each-append, repeated-join, repeated
 use Rattle.runs.proofs.Tables.{canonical-length}
 use Rattle.agreement.specs.declared.Record.{Record}
 use Rattle.agreement.specs.declared.refusal.Refusal.{Refusal}
-use Rattle.agreement.specs.declared.refusal.Refusal.the-variants.{Disagreement, NothingGiven, ClockLimit}
 use Rattle.agreement.specs.Agreement.{kept, agrees}
 use Rattle.agreement.proofs.Agreeing.{agreeing}
 use Rattle.keeping.specs.declared.Outcome.{Outcome}
 use Rattle.keeping.specs.declared.Outcome.the-variants.{Accepted, Refused}
 use Rattle.keeping.specs.Keeping.{unspent, changedBy, wordsBy}
-use Rattle.keeping.specs.Joined.{given, allOf, leftOf, fitOutcome, appended}
+use Rattle.keeping.specs.Joined.{given, allOf, leftOf, appended}
 use Rattle.keeping.proofs.Unspent.{unspent-append, unspent-few}
 use Rattle.timeline.specs.Opening.{freshRecord, zeroRecord, openOutcome}
-use Rattle.timeline.specs.Appending.{joining, appendOutcome}
+use Rattle.timeline.specs.Appending.{appendOutcome}
 use Rattle.timeline.specs.Trimming.{leftAt, trimOutcome, trimmed}
 use Rattle.timeline.proofs.Kept.{open-agrees, trim-keeps, Taken, taken, accepted-keeps}
-use Rattle.laws.specs.Calls.{Call, byTick, byStamp, trimAt, Plain, State, opening, appendTo, after, run, outcomeOf, ifAccepted, brought, allAccepted, Append, appendsOf, acceptedAppends, laidFrom, clockIf, clockOf, greatest}
+use Rattle.laws.specs.Calls.{Call, byTick, byStamp, trimAt, Plain, State, opening, appendTo, after, run, outcomeOf, ifAccepted, brought, allAccepted, acceptedAppends, laidFrom, clockIf, clockOf, greatest}
 use Rattle.laws.specs.History.{StillNeeded, Picked, Holds, Mixings, Demand3}
+use Rattle.laws.proofs.Calling.{stateFrom, append-done, append-refused, trim-done, trim-refused, answered, laid-out, never, stay}
 use Rattle.laws.proofs.Leaving.{unspent-raised, left-suffix, left-kept, trim-room, trim-small, each-sound, drop-counted, still}
 
--- ---- what a call answers
-
-told : (o : Outcome) (new old : Record) → o ≡ changedBy o new old .outcome
-unfolding changedBy
-told Accepted new old = refl
-told (Refused why) new old = refl
-
--- by which test a call ends
-abbrev tested : State → Call → Outcome
-tested s (byTick x d n) = appendOutcome (s .rec) (s .words) (tickStanding x (s .rec .next)) d n
-tested s (byStamp x d n) = appendOutcome (s .rec) (s .words) (stampStanding x (s .rec .next)) d n
-tested s (trimAt m) = trimOutcome (s .rec) (s .words) m
-
-answered : (s : State) (c : Call) → tested s c ≡ outcomeOf s c
-answered s (byTick x d n) = told (tested s (byTick x d n)) (appended (s .rec) (s .words) d n) (s .rec)
-answered s (byStamp x d n) = told (tested s (byStamp x d n)) (appended (s .rec) (s .words) d n) (s .rec)
-answered s (trimAt m) = told (tested s (trimAt m)) (trimmed (s .rec) (s .words) (m .0)) (s .rec)
-
 -- ---- the state of a history
-
-abbrev stateFrom : Record → List ℕ → State
-stateFrom r ws = record { rec = r; words = ws }
 
 module _ (h : Head) (t : Tick) (words : ℕ) where
   abbrev recordOf : List Reference → ℕ → Record
@@ -103,28 +81,7 @@ module _ (h : Head) (t : Tick) (words : ℕ) where
       new : List Reference
       new = repeated (lastEnd (t .0) acc) d n
 
-      append-by : (o : Outcome) → appendOutcome (recordOf acc c) (wordsOf acc c) st d n ≡ o →
-          appendTo (stateOf acc c) st d n ≡
-          stateFrom (changedBy o (appended (recordOf acc c) (wordsOf acc c) d n) (recordOf acc c) .rec)
-          (wordsBy o (canonical (length (wordsOf acc c)) (leftOf (recordOf acc c) (wordsOf acc c) d n)) (wordsOf acc c))
-      append-by o e =
-          ap
-          (λ o.
-          stateFrom (changedBy o (appended (recordOf acc c) (wordsOf acc c) d n) (recordOf acc c) .rec)
-          (wordsBy o (canonical (length (wordsOf acc c)) (leftOf (recordOf acc c) (wordsOf acc c) d n)) (wordsOf acc c)))
-          e
-
-      append-refused : (why : Refusal) → appendOutcome (recordOf acc c) (wordsOf acc c) st d n ≡ Refused why →
-          appendTo (stateOf acc c) st d n ≡ stateOf acc c
-      unfolding changedBy wordsBy
-      append-refused why e = append-by (Refused why) e
-
       module _ (narrow : d ≤ largestSpan) (e : appendOutcome (recordOf acc c) (wordsOf acc c) st d n ≡ Accepted) where
-        append-done : appendTo (stateOf acc c) st d n ≡
-            stateFrom (appended (recordOf acc c) (wordsOf acc c) d n) (canonical (length (wordsOf acc c)) (leftOf (recordOf acc c) (wordsOf acc c) d n))
-        unfolding changedBy wordsBy
-        append-done = append-by Accepted e
-
         took : Taken (recordOf acc c) (wordsOf acc c) st d n
         took = taken (recordOf acc c) (wordsOf acc c) st d n e
 
@@ -171,7 +128,7 @@ module _ (h : Head) (t : Tick) (words : ℕ) where
         words-is = ap₂ canonical (fit .long) left-is
 
         append-state : appendTo (stateOf acc c) st d n ≡ stateOf (acc ++ new) c
-        append-state = append-done ∙ ap₂ stateFrom record-is words-is
+        append-state = append-done (stateOf acc c) st d n e ∙ ap₂ stateFrom record-is words-is
 
         new-sound : Each (Sound h) new
         unfolding new
@@ -195,27 +152,7 @@ module _ (h : Head) (t : Tick) (words : ℕ) where
     -- ---- a trim
 
     module _ (m : Millis) where
-      trim-by : (o : Outcome) → trimOutcome (recordOf acc c) (wordsOf acc c) m ≡ o →
-          after (stateOf acc c) (trimAt m) ≡
-          stateFrom (changedBy o (trimmed (recordOf acc c) (wordsOf acc c) (m .0)) (recordOf acc c) .rec)
-          (wordsBy o (canonical (length (wordsOf acc c)) (leftAt (recordOf acc c) (wordsOf acc c) (m .0))) (wordsOf acc c))
-      trim-by o e =
-          ap
-          (λ o.
-          stateFrom (changedBy o (trimmed (recordOf acc c) (wordsOf acc c) (m .0)) (recordOf acc c) .rec)
-          (wordsBy o (canonical (length (wordsOf acc c)) (leftAt (recordOf acc c) (wordsOf acc c) (m .0))) (wordsOf acc c)))
-          e
-
-      trim-refused : (why : Refusal) → trimOutcome (recordOf acc c) (wordsOf acc c) m ≡ Refused why → after (stateOf acc c) (trimAt m) ≡ stateOf acc c
-      unfolding changedBy wordsBy
-      trim-refused why e = trim-by (Refused why) e
-
       module _ (e : trimOutcome (recordOf acc c) (wordsOf acc c) m ≡ Accepted) where
-        trim-done : after (stateOf acc c) (trimAt m) ≡
-            stateFrom (trimmed (recordOf acc c) (wordsOf acc c) (m .0)) (canonical (length (wordsOf acc c)) (leftAt (recordOf acc c) (wordsOf acc c) (m .0)))
-        unfolding changedBy wordsBy
-        trim-done = trim-by Accepted e
-
         less-is : leftAt (recordOf acc c) (wordsOf acc c) (m .0) ≡ unspent h (max c (m .0)) acc
         less-is = ap (unspent h (max c (m .0))) kept-is ∙ unspent-raised h c (max c (m .0)) (le-max-left c (m .0)) acc
 
@@ -238,7 +175,7 @@ module _ (h : Head) (t : Tick) (words : ℕ) where
         trim-words = ap₂ canonical (fit .long) less-is
 
         trim-state : after (stateOf acc c) (trimAt m) ≡ stateOf acc (max c (m .0))
-        trim-state = trim-done ∙ ap₂ stateFrom trimmed-is trim-words
+        trim-state = trim-done (stateOf acc c) m e ∙ ap₂ stateFrom trimmed-is trim-words
 
         small : m .0 ≤ largestMillis
         small = trim-small (recordOf acc c) (wordsOf acc c) m e
@@ -284,7 +221,7 @@ module _ (h : Head) (t : Tick) (words : ℕ) where
     same-history (acc ++ given (recordOf acc c) d n) (acc ++ given (recordOf acc c) d n) c (max c 0) refl (sym (max-zero c)) (append-fit acc c f st d n l e),
   )
   next-append acc c f st d n l (Refused why) e = (
-    append-refused acc c f st d n why e ∙ ap₂ stateOf (sym (append-nil acc)) (sym (max-zero c)),
+    append-refused (stateOf acc c) st d n why e ∙ ap₂ stateOf (sym (append-nil acc)) (sym (max-zero c)),
     same-history acc (acc ++ []) c (max c 0) (sym (append-nil acc)) (sym (max-zero c)) f,
   )
 
@@ -296,7 +233,7 @@ module _ (h : Head) (t : Tick) (words : ℕ) where
     same-history acc (acc ++ []) (max c (m .0)) (max c (m .0)) (sym (append-nil acc)) refl (trim-fit acc c f m e),
   )
   next-trim acc c f m (Refused why) e = (
-    trim-refused acc c f m why e ∙ ap₂ stateOf (sym (append-nil acc)) (sym (max-zero c)),
+    trim-refused (stateOf acc c) m why e ∙ ap₂ stateOf (sym (append-nil acc)) (sym (max-zero c)),
     same-history acc (acc ++ []) c (max c 0) (sym (append-nil acc)) (sym (max-zero c)) f,
   )
 
@@ -440,36 +377,7 @@ module _ (h : Head) (t : Tick) (came : List ℕ) where
     unfolding changedBy wordsBy
     refused-is = ap leaves o
 
--- ---- the references of the accepted appends
-
-module _ (s : State) where
-  abbrev LaidBehind : List Reference → State → List Append → Type 0
-  LaidBehind first next given = (rest : List Append) (xs : List Reference) → xs ≡ laidFrom (next .rec .next .0) rest → first ++ xs ≡ laidFrom (s .rec .next .0) (given ++ rest)
-
-  laid-append : (st : Standing) (d n : ℕ) (o : Outcome) → appendOutcome (s .rec) (s .words) st d n ≡ o →
-      LaidBehind (ifAccepted o (given (s .rec) d n)) (appendTo s st d n) (ifAccepted o (record { duration = d; count = n } ∷ []))
-  unfolding laidFrom changedBy
-  laid-append st d n Accepted e rest xs k =
-      ap (λ ys. given (s .rec) d n ++ ys) (k ∙ ap (λ x. laidFrom (changedBy x (appended (s .rec) (s .words) d n) (s .rec) .rec .next .0) rest) e)
-  laid-append st d n (Refused why) e rest xs k =
-      k ∙ ap (λ x. laidFrom (changedBy x (appended (s .rec) (s .words) d n) (s .rec) .rec .next .0) rest) e
-
-  laid-trim : (m : Millis) (o : Outcome) → trimOutcome (s .rec) (s .words) m ≡ o →
-      LaidBehind (ifAccepted o []) (after s (trimAt m)) (ifAccepted o [])
-  unfolding changedBy
-  laid-trim m Accepted e rest xs k = k ∙ ap (λ x. laidFrom (changedBy x (trimmed (s .rec) (s .words) (m .0)) (s .rec) .rec .next .0) rest) e
-  laid-trim m (Refused why) e rest xs k = k ∙ ap (λ x. laidFrom (changedBy x (trimmed (s .rec) (s .words) (m .0)) (s .rec) .rec .next .0) rest) e
-
-  laid-call : (c : Call) → LaidBehind (brought s c) (after s c) (ifAccepted (outcomeOf s c) (appendsOf c))
-  laid-call (byTick x d n) = laid-append (tickStanding x (s .rec .next)) d n (outcomeOf s (byTick x d n)) (answered s (byTick x d n))
-  laid-call (byStamp x d n) = laid-append (stampStanding x (s .rec .next)) d n (outcomeOf s (byStamp x d n)) (answered s (byStamp x d n))
-  laid-call (trimAt m) = laid-trim m (outcomeOf s (trimAt m)) (answered s (trimAt m))
-
--- from any record and table
-laid-out : (s : State) (cs : List Call) → allAccepted s cs ≡ laidFrom (s .rec .next .0) (acceptedAppends s cs)
-unfolding allAccepted acceptedAppends laidFrom
-laid-out s [] = refl
-laid-out s (c ∷ cs) = laid-call s c (acceptedAppends (after s c) cs) (allAccepted (after s c) cs) (laid-out (after s c) cs)
+-- ---- the accepted references by the accepted appends
 
 laid : (h : Head) (t : Tick) (came : List ℕ) → openOutcome h t ≡ Accepted → (cs : List Call) →
     allAccepted (opening h t came) cs ≡ laidFrom (t .0) (acceptedAppends (opening h t came) cs)
@@ -488,52 +396,6 @@ module _ (h : Head) (t : Tick) (came other : List ℕ) (cs ds : List Call) (m : 
 
   same : acceptedAppends (opening h t came) cs ≡ acceptedAppends (opening h t other) ds → run (opening h t came) cs ≡ run (opening h t other) ds
   same e = split (laid h t came (m .opens) cs ∙ ap (laidFrom (t .0)) e ∙ sym (laid h t other (m .opens) ds))
-
--- ---- after a refused opening
-
-module _ (came : List ℕ) where
-  abbrev zeroed : State
-  zeroed = stateFrom zeroRecord came
-
-  zero-disagrees : agrees zeroRecord came ≡ false
-  unfolding agrees
-  zero-disagrees = refl
-
-  never-append : (st : Standing) (d n : ℕ) → appendOutcome zeroRecord came st d n ≡ Refused Disagreement
-  unfolding appendOutcome
-  never-append st d n =
-      ap (λ b. cond b (cond (eqb d 0 || eqb n 0) (Refused NothingGiven) (joining st (fitOutcome zeroRecord came d n))) (Refused Disagreement)) zero-disagrees
-
-  never-trim : (m : Millis) → trimOutcome zeroRecord came m ≡ Refused Disagreement
-  unfolding trimOutcome
-  never-trim m = ap (λ b. cond b (cond (millisHeld m) Accepted (Refused ClockLimit)) (Refused Disagreement)) zero-disagrees
-
-  never : (c : Call) → outcomeOf zeroed c ≡ Refused Disagreement
-  never c = sym (answered zeroed c) ∙ go c
-    where
-      go : (c : Call) → tested zeroed c ≡ Refused Disagreement
-      go (byTick x d n) = never-append (tickStanding x (zeroRecord .next)) d n
-      go (byStamp x d n) = never-append (stampStanding x (zeroRecord .next)) d n
-      go (trimAt m) = never-trim m
-
-  stays-append : (st : Standing) (d n : ℕ) → appendTo zeroed st d n ≡ zeroed
-  unfolding changedBy wordsBy
-  stays-append st d n =
-      ap (λ o. stateFrom (changedBy o (appended zeroRecord came d n) zeroRecord .rec) (wordsBy o (canonical (length came) (leftOf zeroRecord came d n)) came))
-      (never-append st d n)
-
-  stays : (c : Call) → after zeroed c ≡ zeroed
-  unfolding changedBy wordsBy
-  stays (byTick x d n) = stays-append (tickStanding x (zeroRecord .next)) d n
-  stays (byStamp x d n) = stays-append (stampStanding x (zeroRecord .next)) d n
-  stays (trimAt m) =
-      ap (λ o. stateFrom (changedBy o (trimmed zeroRecord came (m .0)) zeroRecord .rec) (wordsBy o (canonical (length came) (leftAt zeroRecord came (m .0))) came))
-      (never-trim m)
-
-  stay : (cs : List Call) → run zeroed cs ≡ zeroed
-  unfolding run
-  stay [] = refl
-  stay (c ∷ cs) = ap (λ s. run s cs) (stays c) ∙ stay cs
 
 pub demand-3 : Demand3
 demand-3 =

@@ -1,5 +1,6 @@
 -- The proofs of the statements of specs/.
 pub mod ByHand
+pub mod Calling
 pub mod Leaving
 pub mod Histories
 pub mod Listed

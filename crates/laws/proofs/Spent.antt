@@ -29,7 +29,7 @@ use Rattle.agreement.specs.Agreement.{kept, agrees}
 use Rattle.agreement.proofs.Agreeing as tests
 use Rattle.keeping.specs.declared.Outcome.the-variants.{Accepted, Refused}
 use Rattle.keeping.specs.Keeping.{unspent, changedBy, wordsBy}
-use Rattle.keeping.specs.Joined.{given, leftOf, appended}
+use Rattle.keeping.specs.Joined.{given}
 use Rattle.keeping.proofs.Unspent.{unspent-every, unspent-few}
 use Rattle.timeline.specs.Appending.{appendOutcome}
 use Rattle.timeline.specs.Trimming.{leftAt, trimOutcome, trimmed, trimAnswer, trimTable}
@@ -38,6 +38,7 @@ use Rattle.laws.specs.Calls.{State, trimAt, appendTo, after}
 use Rattle.laws.specs.Demand2.{ExactlyWhen}
 use Rattle.laws.specs.History.{StillNeeded, Picked, keptBy}
 use Rattle.laws.specs.Spent.{Keeps, OnlySpent}
+use Rattle.laws.proofs.Calling.{stateFrom, append-done, trim-done}
 use Rattle.laws.proofs.Leaving.{left-kept, trim-room, trim-agreed, trim-small, each-sound, still}
 use Rattle.laws.proofs.Listed.{sound-kept, agree}
 
@@ -69,9 +70,6 @@ module _ (h : Head) (r : Reference) (c : ℕ) where
       go n false b = absurd (n (outside b))
 
 -- ---- what a call keeps of joined references
-
-abbrev stateFrom : Record → List ℕ → State
-stateFrom r ws = record { rec = r; words = ws }
 
 module _ (s : State) (t : ℕ) (all : List Reference) (joined : Joined t all) (rated : 1 ≤ s .rec .head .timescale .0) (sound : Each (Sound (s .rec .head)) all)
     (c : Millis) (accepted : ℕ) (next : Tick) where
@@ -112,16 +110,11 @@ module _ (s : State) (t : ℕ) (all : List Reference) (joined : Joined t all) (r
 -- ---- a trim
 
 module _ (s : State) (c : Millis) (o : trimOutcome (s .rec) (s .words) c ≡ Accepted) where
-  trim-done : after s (trimAt c) ≡ stateFrom (trimmed (s .rec) (s .words) (c .0)) (canonical (length (s .words)) (leftAt (s .rec) (s .words) (c .0)))
-  unfolding changedBy wordsBy
-  trim-done =
-      ap (λ x. stateFrom (changedBy x (trimmed (s .rec) (s .words) (c .0)) (s .rec) .rec) (wordsBy x (canonical (length (s .words)) (leftAt (s .rec) (s .words) (c .0))) (s .words))) o
-
   trim-keeping : Keeps s (after s (trimAt c)) (max (s .rec .clock .0) (c .0)) (keptBy s)
   trim-keeping =
       let a = trim-agreed (s .rec) (s .words) c o in
       let f = tests.agreeing (s .rec) (s .words) a in
-      subst⁻¹ (λ x. Keeps s x (max (s .rec .clock .0) (c .0)) (keptBy s)) trim-done
+      subst⁻¹ (λ x. Keeps s x (max (s .rec .clock .0) (c .0)) (keptBy s)) (trim-done s c o)
       (keeps s (getD (s .words) 0 0) (keptBy s) (kept-join (s .rec .used) (s .words) (f .table)) (f .held .head .some)
       (sound-kept (s .rec .head) (keptBy s) (kept-within (s .rec .used) (s .words) (f .table)) (f .begun))
       (record { 0 = max (s .rec .clock .0) (c .0) }) (s .rec .accepted) (s .rec .next)
@@ -129,7 +122,7 @@ module _ (s : State) (c : Millis) (o : trimOutcome (s .rec) (s .words) c ≡ Acc
       (trim-room (s .rec) (s .words) a (c .0)))
 
   trim-counts : (after s (trimAt c) .rec .accepted ≡ s .rec .accepted) × (after s (trimAt c) .rec .next ≡ s .rec .next)
-  trim-counts = (ap (λ x. x .rec .accepted) trim-done, ap (λ x. x .rec .next) trim-done)
+  trim-counts = (ap (λ x. x .rec .accepted) (trim-done s c o), ap (λ x. x .rec .next) (trim-done s c o))
 
 module _ (rec : Record) (ws : List ℕ) (c : Millis) (a : agrees rec ws ≡ true) (l : c .0 ≤ rec .clock .0) where
   facts : tests.Agreeing rec ws
@@ -168,11 +161,6 @@ join-next t next [] new j e k = (next, k)
 join-next t next (r ∷ rs) new j e k = (t, join-append t (r ∷ rs) new j (subst⁻¹ (λ (m : ℕ). Joined m new) e k))
 
 module _ (s : State) (st : Standing) (d n : ℕ) (o : appendOutcome (s .rec) (s .words) st d n ≡ Accepted) where
-  append-done : appendTo s st d n ≡ stateFrom (appended (s .rec) (s .words) d n) (canonical (length (s .words)) (leftOf (s .rec) (s .words) d n))
-  unfolding changedBy wordsBy
-  append-done =
-      ap (λ x. stateFrom (changedBy x (appended (s .rec) (s .words) d n) (s .rec) .rec) (wordsBy x (canonical (length (s .words)) (leftOf (s .rec) (s .words) d n)) (s .words))) o
-
   append-keeping : d ≤ largestSpan → Keeps s (appendTo s st d n) (s .rec .clock .0) (keptBy s ++ given (s .rec) d n)
   append-keeping narrow =
       let k = taken (s .rec) (s .words) st d n o in
@@ -180,7 +168,7 @@ module _ (s : State) (st : Standing) (d n : ℕ) (o : appendOutcome (s .rec) (s 
       let h = s .rec .head in
       let j = join-next (getD (s .words) 0 0) (s .rec .next .0) (keptBy s) (given (s .rec) d n) (kept-join (s .rec .used) (s .words) (f .table)) (f .ends)
       (repeated-join (s .rec .next .0) d n) in
-      subst⁻¹ (λ x. Keeps s x (s .rec .clock .0) (keptBy s ++ given (s .rec) d n)) append-done
+      subst⁻¹ (λ x. Keeps s x (s .rec .clock .0) (keptBy s ++ given (s .rec) d n)) (append-done s st d n o)
       (keeps s (j .0) (keptBy s ++ given (s .rec) d n) (j .1) (f .held .head .some)
       (each-append (Sound h) (keptBy s) (given (s .rec) d n)
       (sound-kept h (keptBy s) (kept-within (s .rec .used) (s .words) (f .table)) (f .begun))
@@ -190,7 +178,7 @@ module _ (s : State) (st : Standing) (d n : ℕ) (o : appendOutcome (s .rec) (s 
       (k .room))
 
   append-counts : (appendTo s st d n .rec .accepted ≡ s .rec .accepted + n) × (appendTo s st d n .rec .next .0 ≡ s .rec .next .0 + d * n)
-  append-counts = (ap (λ x. x .rec .accepted) append-done, ap (λ x. x .rec .next .0) append-done)
+  append-counts = (ap (λ x. x .rec .accepted) (append-done s st d n o), ap (λ x. x .rec .next .0) (append-done s st d n o))
 
 pub only-spent : OnlySpent
 only-spent =

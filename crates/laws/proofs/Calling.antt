@@ -1,0 +1,140 @@
+-- What a call answers and leaves, from any record and table: accepted, what its definition says; refused, all as it came. The
+-- references of accepted appends lie end to start. After a refused opening every call is refused.
+use mathlib.Core.Path.{_≡_, refl, sym, ap, _∙_}
+use mathlib.Core.Bool.{false, cond, _||_}
+use mathlib.Core.List.{List, [], _∷_, _++_}
+use Prim.Native.Nat.{ℕ}
+use lib.Dec.{eqb}
+use lib.ListN.{length}
+use Rattle.units.specs.declared.Millis.{Millis}
+use Rattle.units.specs.declared.standing.Standing.{Standing}
+use Rattle.units.specs.Limits.{millisHeld}
+use Rattle.units.specs.Standing.{tickStanding, stampStanding}
+use Rattle.window.specs.declared.Reference.{Reference}
+use Rattle.runs.specs.Encoding.{canonical}
+use Rattle.agreement.specs.declared.Record.{Record}
+use Rattle.agreement.specs.declared.refusal.Refusal.{Refusal}
+use Rattle.agreement.specs.declared.refusal.Refusal.the-variants.{Disagreement, NothingGiven, ClockLimit}
+use Rattle.agreement.specs.Agreement.{agrees}
+use Rattle.keeping.specs.declared.Outcome.{Outcome}
+use Rattle.keeping.specs.declared.Outcome.the-variants.{Accepted, Refused}
+use Rattle.keeping.specs.Keeping.{changedBy, wordsBy}
+use Rattle.keeping.specs.Joined.{given, leftOf, fitOutcome, appended}
+use Rattle.timeline.specs.Opening.{zeroRecord}
+use Rattle.timeline.specs.Appending.{joining, appendOutcome}
+use Rattle.timeline.specs.Trimming.{leftAt, trimOutcome, trimmed}
+use Rattle.laws.specs.Calls.{Call, byTick, byStamp, trimAt, State, appendTo, after, run, outcomeOf, ifAccepted, brought, allAccepted, Append, appendsOf, acceptedAppends, laidFrom}
+
+abbrev pub stateFrom : Record → List ℕ → State
+stateFrom r ws = record { rec = r; words = ws }
+
+-- ---- what a call leaves, by its test
+
+-- a new state or the old one, by an outcome
+abbrev left-by : Outcome → State → State → State
+left-by o new old = stateFrom (changedBy o (new .rec) (old .rec) .rec) (wordsBy o (new .words) (old .words))
+
+module _ (s : State) (st : Standing) (d n : ℕ) where
+  abbrev pub appendLeaves : State
+  appendLeaves = stateFrom (appended (s .rec) (s .words) d n) (canonical (length (s .words)) (leftOf (s .rec) (s .words) d n))
+
+  pub append-done : appendOutcome (s .rec) (s .words) st d n ≡ Accepted → appendTo s st d n ≡ appendLeaves
+  unfolding changedBy wordsBy
+  append-done e = ap (λ o. left-by o appendLeaves s) e
+
+  pub append-refused : (why : Refusal) → appendOutcome (s .rec) (s .words) st d n ≡ Refused why → appendTo s st d n ≡ s
+  unfolding changedBy wordsBy
+  append-refused why e = ap (λ o. left-by o appendLeaves s) e
+
+module _ (s : State) (m : Millis) where
+  abbrev pub trimLeaves : State
+  trimLeaves = stateFrom (trimmed (s .rec) (s .words) (m .0)) (canonical (length (s .words)) (leftAt (s .rec) (s .words) (m .0)))
+
+  pub trim-done : trimOutcome (s .rec) (s .words) m ≡ Accepted → after s (trimAt m) ≡ trimLeaves
+  unfolding changedBy wordsBy
+  trim-done e = ap (λ o. left-by o trimLeaves s) e
+
+  pub trim-refused : (why : Refusal) → trimOutcome (s .rec) (s .words) m ≡ Refused why → after s (trimAt m) ≡ s
+  unfolding changedBy wordsBy
+  trim-refused why e = ap (λ o. left-by o trimLeaves s) e
+
+-- ---- what a call answers is what its test says
+
+told : (o : Outcome) (new old : Record) → o ≡ changedBy o new old .outcome
+unfolding changedBy
+told Accepted new old = refl
+told (Refused why) new old = refl
+
+abbrev tested : State → Call → Outcome
+tested s (byTick x d n) = appendOutcome (s .rec) (s .words) (tickStanding x (s .rec .next)) d n
+tested s (byStamp x d n) = appendOutcome (s .rec) (s .words) (stampStanding x (s .rec .next)) d n
+tested s (trimAt m) = trimOutcome (s .rec) (s .words) m
+
+pub answered : (s : State) (c : Call) → tested s c ≡ outcomeOf s c
+answered s (byTick x d n) = told (tested s (byTick x d n)) (appended (s .rec) (s .words) d n) (s .rec)
+answered s (byStamp x d n) = told (tested s (byStamp x d n)) (appended (s .rec) (s .words) d n) (s .rec)
+answered s (trimAt m) = told (tested s (trimAt m)) (trimmed (s .rec) (s .words) (m .0)) (s .rec)
+
+-- ---- the references of accepted appends
+
+module _ (s : State) where
+  -- references and appends of a call whose references lie from the next tick on, whatever follows them
+  abbrev Laid : List Reference → State → List Append → Type 0
+  Laid first new appends =
+      (rest : List Append) (xs : List Reference) → xs ≡ laidFrom (new .rec .next .0) rest → first ++ xs ≡ laidFrom (s .rec .next .0) (appends ++ rest)
+
+  laid-append : (st : Standing) (d n : ℕ) (o : Outcome) → appendOutcome (s .rec) (s .words) st d n ≡ o →
+      Laid (ifAccepted o (given (s .rec) d n)) (appendTo s st d n) (ifAccepted o (record { duration = d; count = n } ∷ []))
+  unfolding laidFrom
+  laid-append st d n Accepted e rest xs k = ap (λ ys. given (s .rec) d n ++ ys) (k ∙ ap (λ x. laidFrom (x .rec .next .0) rest) (append-done s st d n e))
+  laid-append st d n (Refused why) e rest xs k = k ∙ ap (λ x. laidFrom (x .rec .next .0) rest) (append-refused s st d n why e)
+
+  laid-trim : (m : Millis) (o : Outcome) → trimOutcome (s .rec) (s .words) m ≡ o → Laid (ifAccepted o []) (after s (trimAt m)) (ifAccepted o [])
+  laid-trim m Accepted e rest xs k = k ∙ ap (λ x. laidFrom (x .rec .next .0) rest) (trim-done s m e)
+  laid-trim m (Refused why) e rest xs k = k ∙ ap (λ x. laidFrom (x .rec .next .0) rest) (trim-refused s m why e)
+
+  laid-call : (c : Call) → Laid (brought s c) (after s c) (ifAccepted (outcomeOf s c) (appendsOf c))
+  laid-call (byTick x d n) = laid-append (tickStanding x (s .rec .next)) d n (outcomeOf s (byTick x d n)) (answered s (byTick x d n))
+  laid-call (byStamp x d n) = laid-append (stampStanding x (s .rec .next)) d n (outcomeOf s (byStamp x d n)) (answered s (byStamp x d n))
+  laid-call (trimAt m) = laid-trim m (outcomeOf s (trimAt m)) (answered s (trimAt m))
+
+pub laid-out : (s : State) (cs : List Call) → allAccepted s cs ≡ laidFrom (s .rec .next .0) (acceptedAppends s cs)
+unfolding allAccepted acceptedAppends laidFrom
+laid-out s [] = refl
+laid-out s (c ∷ cs) = laid-call s c (acceptedAppends (after s c) cs) (allAccepted (after s c) cs) (laid-out (after s c) cs)
+
+-- ---- after a refused opening
+
+module _ (came : List ℕ) where
+  abbrev zeroed : State
+  zeroed = stateFrom zeroRecord came
+
+  -- a timescale of 0 is over its limit
+  zero-disagrees : agrees zeroRecord came ≡ false
+  unfolding agrees
+  zero-disagrees = refl
+
+  no-append : (st : Standing) (d n : ℕ) → appendOutcome zeroRecord came st d n ≡ Refused Disagreement
+  unfolding appendOutcome
+  no-append st d n =
+      ap (λ b. cond b (cond (eqb d 0 || eqb n 0) (Refused NothingGiven) (joining st (fitOutcome zeroRecord came d n))) (Refused Disagreement)) zero-disagrees
+
+  no-trim : (m : Millis) → trimOutcome zeroRecord came m ≡ Refused Disagreement
+  unfolding trimOutcome
+  no-trim m = ap (λ b. cond b (cond (millisHeld m) Accepted (Refused ClockLimit)) (Refused Disagreement)) zero-disagrees
+
+  -- every call is refused, and leaves all as it came
+  no-call : (c : Call) → (tested zeroed c ≡ Refused Disagreement) × (after zeroed c ≡ zeroed)
+  no-call (byTick x d n) =
+      let st = tickStanding x (zeroRecord .next) in (no-append st d n, append-refused zeroed st d n Disagreement (no-append st d n))
+  no-call (byStamp x d n) =
+      let st = stampStanding x (zeroRecord .next) in (no-append st d n, append-refused zeroed st d n Disagreement (no-append st d n))
+  no-call (trimAt m) = (no-trim m, trim-refused zeroed m Disagreement (no-trim m))
+
+  pub never : (c : Call) → outcomeOf zeroed c ≡ Refused Disagreement
+  never c = sym (answered zeroed c) ∙ no-call c .0
+
+  pub stay : (cs : List Call) → run zeroed cs ≡ zeroed
+  unfolding run
+  stay [] = refl
+  stay (c ∷ cs) = ap (λ s. run s cs) (no-call c .1) ∙ stay cs
