@@ -47,7 +47,7 @@ unended : (l : List ℕ) → ((i : ℕ) → i < length l → getD l i 0 ≡ line
 unended [] u = tt
 unended (b ∷ bs) u = (u 0 (omega arith), unended bs (λ i h e. u (suc i) (omega arith) e))
 
-unended-line : (f : Frame) → Unended (lineOf f)
+pub unended-line : (f : Frame) → Unended (lineOf f)
 unended-line f = unended (lineOf f) (no-feed f)
 
 abbrev pub AllFit : List Frame → Type 0
@@ -59,7 +59,7 @@ abbrev takeFrames : File → List Frame → File
 takeFrames x [] = x
 takeFrames x (f ∷ fs) = takeFrames (onFrame (x .reading .stage) (x .reading) (x .words) f) fs
 
-ended-before : (f : Frame) (bs : List ℕ) → endedLine f ++ bs ≡ lineOf f ++ lineFeed ∷ bs
+pub ended-before : (f : Frame) (bs : List ℕ) → endedLine f ++ bs ≡ lineOf f ++ lineFeed ∷ bs
 unfolding endedLine
 ended-before f bs = append-assoc (lineOf f) (10 ∷ []) bs
 

@@ -163,25 +163,25 @@ module _ (rec : Record) (ws : List ℕ) (d n : ℕ) where
       (not-every (λ r. beforeEnd (rec .head) (r .start .0)) (given rec d n) .is)
 
 -- how a start stands, by two tests
-gap-is : (joined ahead : Bool) → eqb (standingNumber (standingBy joined ahead)) 4 ≡ (not joined && ahead)
+pub gap-is : (joined ahead : Bool) → eqb (standingNumber (standingBy joined ahead)) 4 ≡ (not joined && ahead)
 gap-is true ahead = refl
 gap-is false true = refl
 gap-is false false = refl
 
-overlap-is : (joined ahead : Bool) → eqb (standingNumber (standingBy joined ahead)) 5 ≡ (not joined && not ahead)
+pub overlap-is : (joined ahead : Bool) → eqb (standingNumber (standingBy joined ahead)) 5 ≡ (not joined && not ahead)
 overlap-is true ahead = refl
 overlap-is false true = refl
 overlap-is false false = refl
 
 module _ (start next : ℕ) where
-  after : (not (eqb start next) && ltb next start) ≡ ltb next start
+  pub after : (not (eqb start next) && ltb next start) ≡ ltb next start
   after = go (ltb next start) refl
     where
       go : (t : Bool) → ltb next start ≡ t → (not (eqb start next) && t) ≡ t
       go true e = ap (λ b. not b && true) (ne-eqb start next (λ k. let l = ltb-true next start e in let w : ⊥ = omega arith in w))
       go false e = and-false (not (eqb start next))
 
-  before : (not (eqb start next) && not (ltb next start)) ≡ ltb start next
+  pub before : (not (eqb start next) && not (ltb next start)) ≡ ltb start next
   before = go (ltb start next) refl
     where
       go : (t : Bool) → ltb start next ≡ t → (not (eqb start next) && not (ltb next start)) ≡ t

@@ -11,6 +11,14 @@ pub mod Files
 pub mod Demand2
 pub mod Rows
 pub mod Changing
+pub mod Reach
+pub mod NoRow
+pub mod SLines
+pub mod LineByLine
+pub mod Standing
+pub mod Bytes
+pub mod WholeFile
+pub mod Reading
 pub mod Refusals
 pub mod Unique
 pub mod Answering

@@ -2,6 +2,8 @@ pub mod ByHand
 pub mod Calls
 pub mod Demand2
 pub mod History
+pub mod Lines
+pub mod Reading
 pub mod Refusals
 pub mod Spent
 pub mod Unique

@@ -1,0 +1,113 @@
+-- Reading, apart from the reader. A file is accepted exactly when its bytes are the lines of one head, one or more S and one end with their number, a
+-- negative r stands on the last S only, and the opening and every append that the S lines stand for are accepted. Reading is then just that opening
+-- and those appends. In every case the number, the line, the record and the table are those that the rows of Lines give.
+-- Paper: The file; Refusal numbers.
+use Prim.Native.Nat.{ℕ, _+_, _≤_, _<_}
+use mathlib.Core.Path.{_≡_}
+use mathlib.Core.List.{List, [], _∷_, _++_, map}
+use lib.ListN.{length}
+use Rattle.units.specs.Standing.{tickStanding, stampStanding}
+use Rattle.window.specs.declared.Head.{Head}
+use Rattle.keeping.specs.declared.Outcome.{Outcome}
+use Rattle.keeping.specs.declared.Outcome.the-variants.{Accepted}
+use Rattle.keeping.specs.Keeping.{outcomeNumber}
+use Rattle.timeline.specs.Opening.{openAnswer}
+use Rattle.timeline.specs.Appending.{appendAnswer}
+use Rattle.timeline.specs.Trimming.{trimAnswer}
+use Rattle.frames.specs.declared.Frame.{Frame}
+use Rattle.frames.specs.declared.Frame.the-variants.{Head as HeadFrame, S, End}
+use Rattle.frames.specs.declared.SFields.{SFields}
+use Rattle.frames.specs.Frames.{Fits}
+use Rattle.file.specs.Judging.{firstNegative, readAnswer, readTable}
+use Rattle.file.specs.Writing.{bytesOf}
+use Rattle.laws.specs.Calls.{Call, byTick, byStamp, trimAt, Plain, State, after, run}
+use Rattle.laws.specs.Demand2.{ExactlyWhen, Least}
+use Rattle.laws.specs.Lines.{opening, startOf, openingTick, countToEnd, judgedFile}
+
+-- ---- the lines
+
+-- one head, the S lines, one end with their number
+abbrev pub fileFrames : Head → List SFields → List Frame
+fileFrames h ss = HeadFrame h ∷ map S ss ++ End (length ss) ∷ []
+
+-- every field of every line can be written over its width
+abbrev pub AllFit : List Frame → Type 0
+AllFit [] = Unit {0}
+AllFit (f ∷ fs) = Fits f × AllFit fs
+
+-- a negative r on the last S only
+abbrev pub NegativeLast : List SFields → Type 0
+NegativeLast [] = Unit {0}
+NegativeLast (s ∷ []) = Unit {0}
+NegativeLast (s ∷ t ∷ ss) = (s .r < firstNegative) × NegativeLast (t ∷ ss)
+
+-- ---- the appends
+
+-- an S line gives n references to a timeline: r + 1 for r of 0 or more; for a negative r the end is known, and n is the least count that reaches it
+pub record Gives (x : State) (s : SFields) (n : ℕ) : Type 0 where
+  pub more : s .r < firstNegative → n ≡ s .r + 1
+  pub known : firstNegative ≤ s .r → 1 ≤ x .rec .head .duration .0
+  pub least : firstNegative ≤ s .r → Least (x .rec .head) (x .rec .next .0) (s .d .0) n
+
+-- the append that it stands for: its duration, and its start or the previous end
+abbrev pub StandsFor : State → SFields → Call → Type 0
+StandsFor x s c = (n : ℕ) × Gives x s n × (c ≡ byTick (record { 0 = startOf (x .rec .next .0) s }) (s .d .0) n)
+
+-- S lines and the calls that they stand for, each at the timeline that those before it left
+abbrev pub StandFor : State → List SFields → List Call → Type 0
+StandFor x [] [] = Unit {0}
+StandFor x [] (c ∷ cs) = ⊥
+StandFor x (s ∷ ss) [] = ⊥
+StandFor x (s ∷ ss) (c ∷ cs) = StandsFor x s c × StandFor (after x c) ss cs
+
+abbrev pub outcomeOf : State → Call → Outcome
+outcomeOf x (byTick t d n) = appendAnswer (x .rec) (x .words) (tickStanding t (x .rec .next)) d n .outcome
+outcomeOf x (byStamp t d n) = appendAnswer (x .rec) (x .words) (stampStanding t (x .rec .next)) d n .outcome
+outcomeOf x (trimAt c) = trimAnswer (x .rec) (x .words) c .outcome
+
+-- every call is accepted
+abbrev pub AllAccepted : State → List Call → Type 0
+AllAccepted x [] = Unit {0}
+AllAccepted x (c ∷ cs) = (outcomeOf x c ≡ Accepted) × AllAccepted (after x c) cs
+
+-- the timeline that a file opens, in a table that came with the words `came`: its first tick is where the first S starts
+abbrev pub openingOf : Head → SFields → List ℕ → State
+openingOf h s came = opening h (openingTick s) came
+
+-- bytes that are a file of a head and S lines, of which s is the first, and that stand for these calls
+pub record ReadsAs (bytes came : List ℕ) (h : Head) (s : SFields) (ss : List SFields) (cs : List Call) : Type 0 where
+  -- the bytes are those lines, each ended by a feed, and nothing else
+  pub lines : bytes ≡ bytesOf (fileFrames h (s ∷ ss))
+  pub fit : AllFit (fileFrames h (s ∷ ss))
+  pub last : NegativeLast (s ∷ ss)
+  -- the opening is accepted, and every append that the S lines stand for
+  pub opens : openAnswer h (openingTick s) .outcome ≡ Accepted
+  pub stand : StandFor (openingOf h s came) (s ∷ ss) cs
+  pub accepted : AllAccepted (openingOf h s came) cs
+
+-- there are such a head, such S lines and such calls
+abbrev pub IsFile : List ℕ → List ℕ → Type 0
+IsFile bytes came = (h : Head) × (s : SFields) × (ss : List SFields) × (cs : List Call) × ReadsAs bytes came h s ss cs
+
+-- ---- the statement
+
+pub record ReadingRight : Type 0 where
+  -- a file is accepted exactly when it is one
+  pub accepted : (bytes came : List ℕ) → ExactlyWhen (readAnswer bytes came .outcome ≡ Accepted) (IsFile bytes came)
+  -- reading is opening plus appends: the record, and no line
+  pub answer : (bytes came : List ℕ) (h : Head) (s : SFields) (ss : List SFields) (cs : List Call) → ReadsAs bytes came h s ss cs →
+      readAnswer bytes came ≡ record { outcome = Accepted; rec = run (openingOf h s came) cs .rec; line = 0 }
+  -- and the table
+  pub table : (bytes came : List ℕ) (h : Head) (s : SFields) (ss : List SFields) (cs : List Call) → ReadsAs bytes came h s ss cs →
+      readTable bytes came ≡ run (openingOf h s came) cs .words
+  -- those appends are calls as any caller's, with durations of 32 bits: what is proved of all lists of calls holds of a file
+  pub plain : (bytes came : List ℕ) (h : Head) (s : SFields) (ss : List SFields) (cs : List Call) → ReadsAs bytes came h s ss cs → Plain cs
+  -- the number, the refused line, the record and the table, by the rows, for any bytes and any table
+  pub number : (bytes came : List ℕ) → outcomeNumber (readAnswer bytes came .outcome) ≡ judgedFile bytes came .number
+  pub line : (bytes came : List ℕ) → readAnswer bytes came .line ≡ judgedFile bytes came .line
+  pub rec : (bytes came : List ℕ) → readAnswer bytes came .rec ≡ judgedFile bytes came .rec
+  pub words : (bytes came : List ℕ) → readTable bytes came ≡ judgedFile bytes came .words
+  -- no file is refused with 2
+  pub never-two : (bytes came : List ℕ) → outcomeNumber (readAnswer bytes came .outcome) ≡ 2 → ⊥
+  -- the count of a negative r in the rows is the least one that reaches the period end
+  pub to-end : (h : Head) (s d n : ℕ) → 1 ≤ d → ExactlyWhen (n ≡ countToEnd h s d) (Least h s d n)
