@@ -94,26 +94,30 @@ module _ (x : State) (start : WideTick) (d n : ℕ) (agreed : agrees (x .rec) (x
     pub known : eqb (x .rec .head .duration .0) 0 ≡ false
     pub begins : startsPast (x .rec) d n ≡ false
 
-  pub reach-only : (eqb d 0 ≡ false → 1 ≤ n) → lowest (reachRows x (start .0) d n) ≡ 0 → Reaches
-  reach-only some e =
-      let r = none-holds (reachRows x (start .0) d n) (omega arith) e in
+  -- the rows are found by what they ask, in whatever order they stand
+  reach-rows : (eqb d 0 ≡ false → 1 ≤ n) → NoneHolds (reachRows x (start .0) d n) → Reaches
+  reach-rows some r =
+      let lasts : eqb d 0 ≡ false = search in
       record {
         taken = append-if (
           ap not agreed,
           (
-            ap₂ _||_ (r .0) (ne-eqb n 0 (λ z. let w : ⊥ = omega (arith, some (r .0)) in w)),
-            (r .1 .0, (r .1 .1 .0, (r .1 .1 .1 .1 .1 .0, (r .1 .1 .1 .1 .1 .1 .0, (r .1 .1 .1 .1 .0, (r .1 .1 .1 .1 .1 .1 .1 .0, tt)))))),
+            ap₂ _||_ lasts (ne-eqb n 0 (λ z. let w : ⊥ = omega (arith, some lasts) in w)),
+            (search, (search, (search, (search, (search, (search, tt)))))),
           ),
         );
-        lasts = r .0;
-        known = r .1 .1 .1 .0;
-        begins = r .1 .1 .1 .1 .0;
+        lasts = lasts;
+        known = search;
+        begins = search;
       }
 
+  pub reach-only : (eqb d 0 ≡ false → 1 ≤ n) → lowest (reachRows x (start .0) d n) ≡ 0 → Reaches
+  reach-only some e = reach-rows some (none-holds (reachRows x (start .0) d n) (omega arith) e)
+
+  append-rows : NoneHolds rows → eqb (x .rec .head .duration .0) 0 ≡ false → NoneHolds (reachRows x (start .0) d n)
+  append-rows r known =
+      let lasts : eqb d 0 ≡ false = or-none (eqb d 0) (eqb n 0) (r .1 .0) .0 in
+      (search, (search, (search, (search, (search, (search, (search, (search, tt))))))))
+
   pub reach-if : answered ≡ Accepted → eqb (x .rec .head .duration .0) 0 ≡ false → lowest (reachRows x (start .0) d n) ≡ 0
-  reach-if e known =
-      let r = append-none e in
-      no-row (reachRows x (start .0) d n) (
-        or-none (eqb d 0) (eqb n 0) (r .1 .0) .0,
-        (r .1 .1 .0, (r .1 .1 .1 .0, (known, (r .1 .1 .1 .1 .1 .1 .0, (r .1 .1 .1 .1 .0, (r .1 .1 .1 .1 .1 .0, (r .1 .1 .1 .1 .1 .1 .1 .0, tt))))))),
-      )
+  reach-if e known = no-row (reachRows x (start .0) d n) (append-rows (append-none e) known)
