@@ -2,7 +2,7 @@
 -- one too many, 17 where its kind may not stand here, then by its fields. An S line stands for an append to the timeline as it is then, and the first
 -- S opens that timeline. Lines are judged in order and the first refused one decides; a file that stops early, or in the middle of a line, is refused
 -- at the line that it lacks. A refused file leaves a zero record and a zeroed table. Paper: The file; Refusal numbers, and the orders below the table.
-use Prim.Native.Nat.{ℕ, _+_, _*_, _^_}
+use Prim.Native.Nat.{ℕ, _+_, _-_, _*_, _^_}
 use mathlib.Core.Bool.{Bool, false, cond, not, _&&_, _||_}
 use mathlib.Core.List.{List, [], _∷_, map}
 use lib.Dec.{eqb, leb, ltb}
@@ -18,7 +18,6 @@ use Rattle.frames.specs.declared.SFields.{SFields}
 use Rattle.frames.specs.Frames.{kindOf, frameOf}
 use Rattle.file.specs.Lines.{linesOf, restOf}
 use Rattle.file.specs.Least.{leastFrom, enough, reaching}
-use Rattle.file.specs.Judging.{absent, firstNegative}
 use Rattle.laws.specs.Calls.{Call, byTick, State, after}
 use Rattle.laws.specs.Refusals.{lowest, overLimit, startsPast, noRunLeft, appendRows}
 
@@ -28,16 +27,21 @@ opening h t came = record { rec = openAnswer h t .rec; words = openTable h t cam
 
 -- ---- what an S line says
 
+-- t is absent where all bits of its eight bytes are ones
+abbrev pub noTick : SFields → Bool
+noTick s = eqb (s .t .0) (2 ^ 64 - 1)
+
 -- where it starts: at its t, or at the previous end where t is absent
 abbrev pub startOf : ℕ → SFields → ℕ
-startOf previous s = cond (eqb (s .t .0) absent) previous (s .t .0)
+startOf previous s = cond (noTick s) previous (s .t .0)
 
 -- the timeline opens where the first S starts; before that S no reference ends, and 0 stands for the previous end
 abbrev pub openingTick : SFields → Tick
 openingTick s = record { 0 = startOf 0 s }
 
+-- r is signed, over four bytes: it is negative from 2^31 on
 abbrev pub negative : SFields → Bool
-negative s = leb firstNegative (s .r)
+negative s = leb (2 ^ 31) (s .r)
 
 -- the least count, one at least, of references of d ticks from tick s on whose end reaches or passes the period end
 abbrev pub countToEnd : Head → ℕ → ℕ → ℕ

@@ -2,7 +2,7 @@
 -- negative r stands on the last S only, and the opening and every append that the S lines stand for are accepted. Reading is then just that opening
 -- and those appends. In every case the number, the line, the record and the table are those that the rows of Lines give.
 -- Paper: The file; Refusal numbers.
-use Prim.Native.Nat.{ℕ, _+_, _≤_, _<_}
+use Prim.Native.Nat.{ℕ, _+_, _^_, _≤_, _<_}
 use mathlib.Core.Path.{_≡_}
 use mathlib.Core.List.{List, [], _∷_, _++_, map}
 use lib.ListN.{length}
@@ -18,7 +18,7 @@ use Rattle.frames.specs.declared.Frame.{Frame}
 use Rattle.frames.specs.declared.Frame.the-variants.{Head as HeadFrame, S, End}
 use Rattle.frames.specs.declared.SFields.{SFields}
 use Rattle.frames.specs.Frames.{Fits}
-use Rattle.file.specs.Judging.{firstNegative, readAnswer, readTable}
+use Rattle.file.specs.Judging.{readAnswer, readTable}
 use Rattle.file.specs.Writing.{bytesOf}
 use Rattle.laws.specs.Calls.{Call, byTick, byStamp, trimAt, Plain, State, after, run}
 use Rattle.laws.specs.Demand2.{ExactlyWhen, Least}
@@ -39,15 +39,18 @@ AllFit (f ∷ fs) = Fits f × AllFit fs
 abbrev pub NegativeLast : List SFields → Type 0
 NegativeLast [] = Unit {0}
 NegativeLast (s ∷ []) = Unit {0}
-NegativeLast (s ∷ t ∷ ss) = (s .r < firstNegative) × NegativeLast (t ∷ ss)
+NegativeLast (s ∷ t ∷ ss) = (s .r < 2 ^ 31) × NegativeLast (t ∷ ss)
 
 -- ---- the appends
 
--- an S line gives n references to a timeline: r + 1 for r of 0 or more; for a negative r the end is known, and n is the least count that reaches it
+-- an S line gives n references to a timeline
 pub record Gives (x : State) (s : SFields) (n : ℕ) : Type 0 where
-  pub more : s .r < firstNegative → n ≡ s .r + 1
-  pub known : firstNegative ≤ s .r → 1 ≤ x .rec .head .duration .0
-  pub least : firstNegative ≤ s .r → Least (x .rec .head) (x .rec .next .0) (s .d .0) n
+  -- r of 0 or more means r + 1
+  pub more : s .r < 2 ^ 31 → n ≡ s .r + 1
+  -- a negative r asks for a known end
+  pub known : 2 ^ 31 ≤ s .r → 1 ≤ x .rec .head .duration .0
+  -- and means the least count, one at least, whose end reaches or passes it
+  pub least : 2 ^ 31 ≤ s .r → Least (x .rec .head) (x .rec .next .0) (s .d .0) n
 
 -- the append that it stands for: its duration, and its start or the previous end
 abbrev pub StandsFor : State → SFields → Call → Type 0
@@ -60,6 +63,7 @@ StandFor x [] (c ∷ cs) = ⊥
 StandFor x (s ∷ ss) [] = ⊥
 StandFor x (s ∷ ss) (c ∷ cs) = StandsFor x s c × StandFor (after x c) ss cs
 
+-- what a call answers
 abbrev pub outcomeOf : State → Call → Outcome
 outcomeOf x (byTick t d n) = appendAnswer (x .rec) (x .words) (tickStanding t (x .rec .next)) d n .outcome
 outcomeOf x (byStamp t d n) = appendAnswer (x .rec) (x .words) (stampStanding t (x .rec .next)) d n .outcome
@@ -78,11 +82,15 @@ openingOf h s came = opening h (openingTick s) came
 pub record ReadsAs (bytes came : List ℕ) (h : Head) (s : SFields) (ss : List SFields) (cs : List Call) : Type 0 where
   -- the bytes are those lines, each ended by a feed, and nothing else
   pub lines : bytes ≡ bytesOf (fileFrames h (s ∷ ss))
+  -- every field fits its width
   pub fit : AllFit (fileFrames h (s ∷ ss))
+  -- no S stands after a negative r
   pub last : NegativeLast (s ∷ ss)
-  -- the opening is accepted, and every append that the S lines stand for
+  -- the opening at the first S is accepted
   pub opens : openAnswer h (openingTick s) .outcome ≡ Accepted
+  -- the S lines stand for these appends to it
   pub stand : StandFor (openingOf h s came) (s ∷ ss) cs
+  -- and each of them is accepted
   pub accepted : AllAccepted (openingOf h s came) cs
 
 -- there are such a head, such S lines and such calls
@@ -92,20 +100,23 @@ IsFile bytes came = (h : Head) × (s : SFields) × (ss : List SFields) × (cs : 
 -- ---- the statement
 
 pub record ReadingRight : Type 0 where
-  -- a file is accepted exactly when it is one
+  -- bytes are accepted exactly when they are a file
   pub accepted : (bytes came : List ℕ) → ExactlyWhen (readAnswer bytes came .outcome ≡ Accepted) (IsFile bytes came)
-  -- reading is opening plus appends: the record, and no line
+  -- reading is opening plus appends: the record is theirs, and the line is 0
   pub answer : (bytes came : List ℕ) (h : Head) (s : SFields) (ss : List SFields) (cs : List Call) → ReadsAs bytes came h s ss cs →
       readAnswer bytes came ≡ record { outcome = Accepted; rec = run (openingOf h s came) cs .rec; line = 0 }
-  -- and the table
+  -- and so is the table
   pub table : (bytes came : List ℕ) (h : Head) (s : SFields) (ss : List SFields) (cs : List Call) → ReadsAs bytes came h s ss cs →
       readTable bytes came ≡ run (openingOf h s came) cs .words
   -- those appends are calls as any caller's, with durations of 32 bits: what is proved of all lists of calls holds of a file
   pub plain : (bytes came : List ℕ) (h : Head) (s : SFields) (ss : List SFields) (cs : List Call) → ReadsAs bytes came h s ss cs → Plain cs
-  -- the number, the refused line, the record and the table, by the rows, for any bytes and any table
+  -- for any bytes and any table the number is the one of the first refused line, by its rows, and 0 where none is
   pub number : (bytes came : List ℕ) → outcomeNumber (readAnswer bytes came .outcome) ≡ judgedFile bytes came .number
+  -- the line is that line, a missing one where the file stops, and 0 where the file is accepted
   pub line : (bytes came : List ℕ) → readAnswer bytes came .line ≡ judgedFile bytes came .line
+  -- the record is zero where the file is refused
   pub rec : (bytes came : List ℕ) → readAnswer bytes came .rec ≡ judgedFile bytes came .rec
+  -- and the table is zeroed then
   pub words : (bytes came : List ℕ) → readTable bytes came ≡ judgedFile bytes came .words
   -- no file is refused with 2
   pub never-two : (bytes came : List ℕ) → outcomeNumber (readAnswer bytes came .outcome) ≡ 2 → ⊥
