@@ -41,8 +41,10 @@ use Rattle.flonterri.specs.Words.{recordWords, wordsOf}
 use Rattle.flonterri.specs.Tells.{Tells, verdictTells, availabilityTells, touchingTells, writeTells}
 use Rattle.flonterri.specs.Face.{wrongRecord, wrongLength, guarded, changes, tells, readsBy, reads, writesBy, Changes as Seen, Reads as Readings, Writes as Wrote}
 use Rattle.flonterri.proofs.Refusing.{read-refused}
+use Rattle.flonterri.proofs.Lengths.{both-right, behind}
 use Rattle.laws.specs.Refusals.{lowest}
-use Rattle.laws.specs.Demand1.{Numbered, Changes, Only, Read, Feeds, Finishes, recordRows, lengthRows, ChangesFromC, TellsC, ReadFromC}
+use Rattle.laws.specs.Demand1.{Numbered, Changes, Only, Zeroes, Reads, Feeds, Finishes, recordRows, lengthRows, ChangesFromC, TellsC, ReadsFromC}
+use Rattle.laws.proofs.Reading.{reading-right}
 
 -- ---- Rattle's calls
 
@@ -111,7 +113,7 @@ refusal-some refusal.NoEndToReach = refl
 refusal-some refusal.EndUnknown = refl
 
 -- by its outcome, from a reading that has come so far
-pub answered : (o : Outcome) (r : Reading) (new before : List ℕ) (x : ReadAnswer) (after : List ℕ) → x ≡ answeredBy o r → after ≡ wordsBy o new (zeroed before) → Read x after before
+pub answered : (o : Outcome) (r : Reading) (new before : List ℕ) (x : ReadAnswer) (after : List ℕ) → x ≡ answeredBy o r → after ≡ wordsBy o new (zeroed before) → Zeroes x after before
 unfolding wordsBy
 answered Accepted r new before x after e f =
     record { accepted = λ k. ap (λ y. y .line) e; refused = λ k. absurd (k (ap (λ y. outcomeNumber (y .outcome)) e)) }
@@ -124,9 +126,14 @@ answered (Refused why) r new before x after e f =
     some : (m l : ℕ) → l ≡ m + 1 → 1 ≤ l
     some m l e = omega arith
 
-pub reading : (bytes before : List ℕ) (x : ReadAnswer) (after : List ℕ) → x ≡ readAnswer bytes before → after ≡ readTable bytes before → Read x after before
+pub reading : (bytes before : List ℕ) (x : ReadAnswer) (after : List ℕ) → x ≡ readAnswer bytes before → after ≡ readTable bytes before → Reads bytes x after before
 unfolding readAnswer readTable
-reading bytes before x after e f = answered (readOutcome bytes before) (readLines bytes before .reading) (readLines bytes before .words) before x after e f
+reading bytes before x after e f =
+    record {
+      number = ap (λ y. outcomeNumber (y .outcome)) e ∙ reading-right .number bytes before;
+      line = ap (λ y. y .line) e ∙ reading-right .line bytes before;
+      left = answered (readOutcome bytes before) (readLines bytes before .reading) (readLines bytes before .words) before x after e f;
+    }
 
 module _ (reader : Reader) (before : List ℕ) where
   pub feeding : (piece : List ℕ) (x : Reader) (after : List ℕ) → x ≡ fedReader reader before piece → after ≡ fedTable reader before piece → Feeds reader before x after
@@ -273,15 +280,23 @@ module _ (bytes ws ts out : List ℕ) where
       go true false e = let z : ⊥ = omega arith in absurd z
       go false t e = let z : ⊥ = omega arith in absurd z
 
+  lengths-passed : lowest (lengthRows ws out 1 []) ≡ 0 →
+      (reads bytes ws ts out .number ≡ outcomeNumber (readAnswer bytes ts .outcome)) × (reads bytes ws ts out .out ≡ readAnswer bytes ts .line ∷ [])
+  unfolding reads readsBy
+  lengths-passed e =
+      let l = lengths-right e in
+      let r = sym (behind _ _ _ 0 (both-right _ _ 1 (l .0) (l .1)) refl) in (ap (λ (y : Readings). y .number) r, ap (λ (y : Readings). y .out) r)
+
   pub reads-c : (x : ℕ) (words table line : List ℕ) → x ≡ reads bytes ws ts out .number → words ≡ reads bytes ws ts out .words →
-      table ≡ reads bytes ws ts out .table → line ≡ reads bytes ws ts out .out → ReadFromC x ws ts out words table line
+      table ≡ reads bytes ws ts out .table → line ≡ reads bytes ws ts out .out → ReadsFromC bytes x ws ts out words table line
   reads-c x words table line e f g h =
       record {
         lengths = λ k. let l = lengths-wrong k in (e ∙ l .0, f ∙ l .1, g ∙ l .2, h ∙ l .3);
+        number = λ z. e ∙ lengths-passed z .0 ∙ reading-right .number bytes ts;
+        line = λ z. h ∙ lengths-passed z .1 ∙ ap (λ (n : ℕ). n ∷ []) (reading-right .line bytes ts);
         refused = λ z k.
             let l = lengths-right z in
-            let r = read-refused bytes ws ts out (l .0) (l .1) (λ n. k (e ∙ n)) in
-            (f ∙ r .0, g ∙ r .1 .0, (readLines bytes ts .reading .lines + 1, omega arith, h ∙ r .1 .1));
+            let r = read-refused bytes ws ts out (l .0) (l .1) (λ n. k (e ∙ n)) in (f ∙ r .0, g ∙ r .1 .0);
       }
 
 pub writes-c : (ws bytes out : List ℕ) (rows : List (Bool × ℕ)) (wrote : Wrote) → wrote .number ≡ lowest (lengthRows ws out 1 rows) →

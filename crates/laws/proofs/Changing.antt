@@ -30,12 +30,12 @@ use Rattle.timeline.specs.Opening.{openOutcome, openAnswer}
 use Rattle.timeline.specs.Appending.{joining, appendOutcome, appendAnswer}
 use Rattle.timeline.specs.Trimming.{trimOutcome, trimAnswer}
 use Rattle.timeline.proofs.Kept.{or-none}
-use Rattle.laws.specs.Refusals.{lowest, some, overLimit, noRunLeft, appendRows}
+use Rattle.laws.specs.Refusals.{lowest, some, overLimit, noRunLeft, appendRows, openRows, trimRows, appendTickRows, appendStampRows}
 use Rattle.laws.proofs.Rows.{Fails, over, none, either, not-every, told}
 
 -- ---- opening and trimming
 
-pub opening : (h : Head) (t : Tick) → outcomeNumber (openAnswer h t .outcome) ≡ lowest ((overLimit h t, 1) ∷ [])
+pub opening : (h : Head) (t : Tick) → outcomeNumber (openAnswer h t .outcome) ≡ lowest (openRows h t)
 unfolding openOutcome
 opening h t =
     ap outcomeNumber (told (openOutcome h t) _ _) ∙
@@ -59,7 +59,7 @@ opening h t =
     by false = refl
 
 pub trim : (rec : Record) (ws : List ℕ) (c : Millis) →
-    outcomeNumber (trimAnswer rec ws c .outcome) ≡ lowest ((not (agrees rec ws), 2) ∷ (ltb largestMillis (c .0), 10) ∷ [])
+    outcomeNumber (trimAnswer rec ws c .outcome) ≡ lowest (trimRows rec ws c)
 unfolding trimOutcome
 trim rec ws c =
     ap outcomeNumber (told (trimOutcome rec ws c) _ _) ∙
@@ -196,7 +196,7 @@ module _ (start next : ℕ) where
 
 module _ (rec : Record) (ws : List ℕ) (d n : ℕ) (narrow : d ≤ largestSpan) where
   pub append : (start : WideTick) → outcomeNumber (appendAnswer rec ws (tickStanding start (rec .next)) d n .outcome) ≡
-      lowest (appendRows rec ws (ltb (rec .next .0) (start .0)) (ltb (start .0) (rec .next .0)) d n)
+      lowest (appendTickRows rec ws start d n)
   append start =
       by-words rec ws d n narrow (tickStanding start (rec .next)) (ltb (rec .next .0) (start .0)) (ltb (start .0) (rec .next .0))
       (gap-is (eqb (start .0) (rec .next .0)) (ltb (rec .next .0) (start .0)) ∙ after (start .0) (rec .next .0))
@@ -204,11 +204,7 @@ module _ (rec : Record) (ws : List ℕ) (d n : ℕ) (narrow : d ≤ largestSpan)
       _ rec
 
   pub append-stamp : (stamp : Stamp) → outcomeNumber (appendAnswer rec ws (stampStanding stamp (rec .next)) d n .outcome) ≡
-      lowest
-      (appendRows rec ws
-      (ltb 0 (less32 (stamp .0) (rec .next .0)) && ltb (less32 (stamp .0) (rec .next .0)) (2 ^ 31))
-      (leb (2 ^ 31) (less32 (stamp .0) (rec .next .0)))
-      d n)
+      lowest (appendStampRows rec ws stamp d n)
   append-stamp stamp =
       let m = less32 (stamp .0) (rec .next .0) in
       by-words rec ws d n narrow (stampStanding stamp (rec .next)) _ _

@@ -31,9 +31,9 @@ use Rattle.file.specs.declared.Reading.{Reading}
 use Rattle.file.specs.Judging.{File, refused, taken, laterStanding, takeS, openedBy, takeFirstS, takeHead, takeEnd, onNothing, onHeaded, onOpen, onFilled, onFrame, takeLine, takeLines, stopOutcome, answeredBy, zeroed}
 use Rattle.file.specs.Sound.{Narrow}
 use Rattle.file.proofs.Places.{narrow}
-use Rattle.laws.specs.Calls.{State, after}
+use Rattle.laws.specs.Calls.{State, after, opening}
 use Rattle.laws.specs.Refusals.{lowest, overLimit}
-use Rattle.laws.specs.Lines.{opening, startOf, openingTick, negative, callOf, Place, atFirst, afterHead, afterS, afterNegative, afterEnd, Sofar, appendedRows, timelineFor, lineRows, taking, Result, accepted, refusedAt, unlessRefused, judged, beginning}
+use Rattle.laws.specs.Lines.{startOf, openingTick, negative, callOf, Place, atFirst, afterHead, afterS, afterNegative, afterEnd, Sofar, appendedRows, timelineFor, lineRows, taking, Result, accepted, refusedAt, unlessRefused, judged, beginning}
 use Rattle.laws.proofs.Rows.{told, none as none-there}
 use Rattle.laws.proofs.Changing as changing
 use Rattle.laws.proofs.NoRow.{none-holds, refused-number}

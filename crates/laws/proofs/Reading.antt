@@ -2,7 +2,7 @@
 -- the opening and the appends that it stands for.
 use mathlib.Core.Path.{_≡_, refl, sym, ap, ap₂, subst, subst⁻¹, _∙_}
 use mathlib.Core.List.{List, [], _∷_, _++_, map}
-use Prim.Native.Nat.{ℕ}
+use Prim.Native.Nat.{ℕ, max}
 use lib.ListN.{length}
 use Rattle.window.specs.declared.Head.{Head}
 use Rattle.agreement.specs.declared.Record.{Record}
@@ -16,15 +16,18 @@ use Rattle.frames.specs.declared.SFields.{SFields}
 use Rattle.frames.specs.Frames.{lineOf, frameOf}
 use Rattle.frames.proofs.Lines.{frame-written-read}
 use Rattle.file.specs.declared.Reading.{Reading as Read}
+use Rattle.file.specs.declared.ReadAnswer.{ReadAnswer}
 use Rattle.file.specs.Lines.{linesOf, restOf}
 use Rattle.file.specs.Judging.{readLines, readOutcome, answeredBy, readAnswer, readTable}
 use Rattle.file.specs.Writing.{bytesOf}
 use Rattle.file.proofs.Back.{rest-of-frames}
 use Rattle.file.proofs.Never.{never-disagrees}
 use Rattle.file.proofs.Places.{narrow}
-use Rattle.laws.specs.Calls.{Call, Plain, State, after, run}
+use Rattle.laws.specs.Calls.{Call, Plain, State, after, run, allAccepted, clockOf, greatest}
+use Rattle.laws.specs.History.{Holds}
 use Rattle.laws.specs.Lines.{openingTick, Result, accepted, judged, beginning, judgedFile}
 use Rattle.laws.specs.Reading.{fileFrames, AllFit, StandFor, openingOf, ReadsAs, IsFile, ReadingRight}
+use Rattle.laws.proofs.Histories.{demand-3}
 use Rattle.laws.proofs.Rows.{told}
 use Rattle.laws.proofs.Reach.{to-end}
 use Rattle.laws.proofs.NoRow.{number-accepted}
@@ -81,6 +84,14 @@ plain x [] (c ∷ cs) w st = absurd st
 plain x (s ∷ ss) [] w st = absurd st
 plain x (s ∷ ss) (c ∷ cs) w st = subst⁻¹ (λ d. Plain (d ∷ cs)) (st .0 .2) (w .0, plain (after x c) ss cs (w .1) (st .1))
 
+-- no S line stands for a trim, so that no clock is raised
+no-clock : (x : State) (ss : List SFields) (cs : List Call) → StandFor x ss cs → greatest x cs ≡ 0
+unfolding greatest
+no-clock x [] [] st = refl
+no-clock x [] (c ∷ cs) st = absurd st
+no-clock x (s ∷ ss) [] st = absurd st
+no-clock x (s ∷ ss) (c ∷ cs) st = ap₂ max (ap (clockOf x) (st .0 .2)) (no-clock (after x c) ss cs (st .1))
+
 -- ---- a file
 
 module _ (bytes came : List ℕ) (h : Head) (s : SFields) (ss : List SFields) (cs : List Call) (f : ReadsAs bytes came h s ss cs) where
@@ -109,6 +120,14 @@ module _ (bytes came : List ℕ) (h : Head) (s : SFields) (ss : List SFields) (c
 
   file-plain : Plain cs
   file-plain = plain (openingOf h s came) (s ∷ ss) cs narrowed (f .stand)
+
+  file-holds : Holds h (openingTick s) (length came) (record { rec = readAnswer bytes came .rec; words = readTable bytes came }) (allAccepted (openingOf h s came) cs) 0
+  file-holds =
+      subst (λ (n : ℕ). Holds h (openingTick s) (length came) (record { rec = readAnswer bytes came .rec; words = readTable bytes came }) (allAccepted (openingOf h s came) cs) n)
+      (no-clock (openingOf h s came) (s ∷ ss) cs (f .stand))
+      (subst⁻¹ (λ x. Holds h (openingTick s) (length came) x (allAccepted (openingOf h s came) cs) (greatest (openingOf h s came) cs))
+      (ap₂ (λ (r : Record) ws. record { rec = r; words = ws }) (ap (λ (a : ReadAnswer). a .rec) file-answer) file-table)
+      (demand-3 .holds h (openingTick s) came (sym (told (openOutcome h (openingTick s)) _ _) ∙ f .opens) cs file-plain))
 
 module _ (bytes came : List ℕ) (o : readAnswer bytes came .outcome ≡ Accepted) where
   whole : Whole came (map frameOf (linesOf bytes)) (restOf bytes)
@@ -142,6 +161,7 @@ reading-right =
       answer = file-answer;
       table = file-table;
       plain = file-plain;
+      holds = file-holds;
       number = number-is;
       line = line-is;
       rec = record-is;

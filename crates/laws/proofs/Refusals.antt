@@ -35,7 +35,7 @@ use Rattle.answers.specs.Spans.{touches, beforeFirst, uptoLast, touchedWords, t
 use Rattle.answers.specs.Numbers.{verdictNumber, availabilityNumber, availableNumber, touchingNumber}
 use Rattle.file.specs.declared.WriteAnswer.the-variants as written
 use Rattle.file.specs.Writing.{fileFor, writeAnswer, writeNumber}
-use Rattle.laws.specs.Refusals.{lowest, some, notKept, Refusals}
+use Rattle.laws.specs.Refusals.{lowest, some, notKept, Refusals, verdictRows, wholeRows, availabilityRows, availableRows, touchingRows, writeRows}
 use Rattle.laws.proofs.Rows.{over, under, none}
 use Rattle.laws.proofs.Changing.{opening, trim, append, append-stamp}
 
@@ -53,7 +53,7 @@ well h w rs = go (eqb (neededCount h w) 0) (eqb (coveredCount h w rs) (neededCou
     go false false = refl
 
 verdict-at : (rec : Record) (ws : List ℕ) (c : Millis) →
-    verdictNumber (verdictAt rec ws c) ≡ lowest ((not (agrees rec ws), 2) ∷ (ltb largestMillis (c .0), 10) ∷ (ltb (c .0) (rec .clock .0), 11) ∷ [])
+    verdictNumber (verdictAt rec ws c) ≡ lowest (verdictRows rec ws c)
 verdict-at rec ws c =
     by (agrees rec ws) (leb (c .0) largestMillis) (leb (rec .clock .0) (c .0)) _ (well (rec .head) (windowAt (rec .head) (c .0)) (kept rec ws)) ∙
     ap₂ (λ a b. lowest ((not (agrees rec ws), 2) ∷ (a, 10) ∷ (b, 11) ∷ [])) (over (c .0) largestMillis .is) (over (rec .clock .0) (c .0) .is)
@@ -68,7 +68,7 @@ verdict-at rec ws c =
     by true true true v k = k
 
 verdict-whole : (rec : Record) (ws : List ℕ) →
-    verdictNumber (verdictWhole rec ws) ≡ lowest ((not (agrees rec ws), 2) ∷ (eqb (rec .head .duration .0) 0, 19) ∷ [])
+    verdictNumber (verdictWhole rec ws) ≡ lowest (wholeRows rec ws)
 verdict-whole rec ws = by (agrees rec ws) (eqb (rec .head .duration .0) 0) _ (well (rec .head) (wholePeriod (rec .head)) (kept rec ws))
   where
     by : (a b : Bool) (v : Verdict) → verdictNumber v ≡ 0 →
@@ -114,7 +114,7 @@ module _ (rec : Record) (ws : List ℕ) (n : Number) where
       ap (λ (m : ℕ). cond {A = ℕ} (ltb (n .0) (rec .head .first .0 + rec .dropped) || leb m (n .0)) 13 0)
       (omega (arith, k .total, k .held .dropped))
 
-  availability-number : availabilityNumber (availabilityIn rec ws n) ≡ lowest ((not (agrees rec ws), 2) ∷ (notKept rec n, 13) ∷ [])
+  availability-number : availabilityNumber (availabilityIn rec ws n) ≡ lowest (availabilityRows rec ws n)
   availability-number = go (agrees rec ws) refl
     where
       each : (r : Reference) → availabilityNumber (availabilityOf (rec .head) r) ≡ 0
@@ -132,8 +132,7 @@ module _ (rec : Record) (ws : List ℕ) (n : Number) where
       go false e = refl
       go true e = kept-found e (λ x. availabilityNumber (numberAvailability (rec .head) x)) refl each
 
-  available-number : (c : Millis) → availableNumber (availableIn rec ws n c) ≡
-      lowest ((not (agrees rec ws), 2) ∷ (ltb largestMillis (c .0), 10) ∷ (notKept rec n, 13) ∷ [])
+  available-number : (c : Millis) → availableNumber (availableIn rec ws n c) ≡ lowest (availableRows rec ws n c)
   available-number c =
       go (agrees rec ws) (leb (c .0) largestMillis) refl ∙
       ap (λ b. lowest ((not (agrees rec ws), 2) ∷ (b, 10) ∷ (notKept rec n, 13) ∷ [])) (over (c .0) largestMillis .is)
@@ -154,7 +153,7 @@ module _ (rec : Record) (ws : List ℕ) (n : Number) where
       go true true e = kept-found e (λ x. availableNumber (numberAvailable (rec .head) (c .0) x)) refl each
 
 touching-number : (rec : Record) (ws : List ℕ) (a b : WideTick) →
-    touchingNumber (touchingWords rec ws a b) ≡ lowest ((not (agrees rec ws), 2) ∷ (leb (b .0) (a .0), 14) ∷ [])
+    touchingNumber (touchingWords rec ws a b) ≡ lowest (touchingRows rec ws a b)
 touching-number rec ws a b =
     by (agrees rec ws) (ltb (a .0) (b .0)) (touchedWords (a .0) (b .0) (runsOf (rec .used) ws))
     (words (eqb (uptoLast (touches (a .0) (b .0)) (runsOf (rec .used) ws)) 0) (3 * beforeFirst (touches (a .0) (b .0)) (runsOf (rec .used) ws))
@@ -172,7 +171,7 @@ touching-number rec ws a b =
     by true true x k = k
 
 write-number : (rec : Record) (ws : List ℕ) (room : ℕ) →
-    writeNumber (writeAnswer rec ws room) ≡ lowest ((not (agrees rec ws), 2) ∷ (eqb (rec .used) 0, 12) ∷ (ltb room (length (fileFor rec ws)), 15) ∷ [])
+    writeNumber (writeAnswer rec ws room) ≡ lowest (writeRows rec ws room)
 unfolding writeAnswer
 write-number rec ws room =
     by (agrees rec ws) (eqb (rec .used) 0) (leb (length (fileFor rec ws)) room) ∙

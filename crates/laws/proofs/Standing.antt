@@ -13,11 +13,11 @@ use Rattle.keeping.specs.Keeping.{outcomeNumber}
 use Rattle.timeline.proofs.Kept.{or-none}
 use Rattle.frames.specs.declared.SFields.{SFields}
 use Rattle.file.specs.Judging.{firstNegative}
-use Rattle.laws.specs.Calls.{Call, byTick, State}
+use Rattle.laws.specs.Calls.{Call, byTick, State, outcomeOf}
 use Rattle.laws.specs.Demand2.{Least}
 use Rattle.laws.specs.Refusals.{lowest, appendRows}
 use Rattle.laws.specs.Lines.{startOf, negative, countToEnd, countOf, callOf, reachRows, appendedRows}
-use Rattle.laws.specs.Reading.{StandsFor, outcomeOf}
+use Rattle.laws.specs.Reading.{StandsFor}
 use Rattle.laws.proofs.Changing.{append}
 use Rattle.laws.proofs.Reach.{count-least, to-end}
 use Rattle.laws.proofs.NoRow.{number-accepted, append-none, reach-only, reach-if}

@@ -23,10 +23,10 @@ use Rattle.frames.specs.Frames.{kindOf}
 use Rattle.file.specs.declared.Stage.the-variants.{Open}
 use Rattle.file.specs.Judging.{File, firstNegative}
 use Rattle.file.specs.Sound.{Narrow}
-use Rattle.laws.specs.Calls.{Call, State, after, run}
+use Rattle.laws.specs.Calls.{Call, State, after, run, opening, outcomeOf}
 use Rattle.laws.specs.Refusals.{lowest, overLimit}
-use Rattle.laws.specs.Lines.{opening, openingTick, negative, callOf, Place, afterHead, afterS, afterNegative, afterEnd, among, Sofar, appendedRows, stopRows, fieldRows, lineRows, taking, Result, accepted, refusedAt, unlessRefused, judged, beginning}
-use Rattle.laws.specs.Reading.{fileFrames, NegativeLast, StandsFor, StandFor, outcomeOf, AllAccepted}
+use Rattle.laws.specs.Lines.{openingTick, negative, callOf, Place, afterHead, afterS, afterNegative, afterEnd, among, Sofar, appendedRows, stopRows, fieldRows, lineRows, taking, Result, accepted, refusedAt, unlessRefused, judged, beginning}
+use Rattle.laws.specs.Reading.{fileFrames, NegativeLast, StandsFor, StandFor, AllAccepted}
 use Rattle.laws.proofs.NoRow.{none-holds, refused-number, number-accepted}
 use Rattle.laws.proofs.SLines.{Taken, on, off, s-taken}
 use Rattle.laws.proofs.LineByLine.{open-number, head-number, no-over, open-agreed, late, late-timeline, late-number}

@@ -1,5 +1,5 @@
 -- Demand 1. Every entry point takes any input, and answers it with the paper's number: the lowest whose condition holds, 0 where none does
--- (the rows of Refusals). A refused call returns the record as it came and changes no word and no byte, with these exceptions. A refused
+-- (the rows of Refusals, and for a file those of Lines). A refused call returns the record as it came and changes no word and no byte, with these exceptions. A refused
 -- opening answers a zero record. A refused reading answers a zero record and the line, and zeroes the table. The part that a span lookup hands back
 -- is empty. A verdict and an availability give their number and nothing else. Of each function this is said over the contract that the check
 -- itself makes of it (Unique says what its parts are, and has the functions that never refuse). For C the lengths of record and out are judged first.
@@ -37,6 +37,7 @@ use Rattle.file.proofs as file
 use Rattle.report.proofs as report
 use Rattle.flonterri.proofs as flonterri
 use Rattle.laws.specs.Refusals.{lowest, openRows, appendTickRows, appendStampRows, trimRows, verdictRows, wholeRows, availabilityRows, availableRows, touchingRows, writeRows}
+use Rattle.laws.specs.Lines.{judgedFile}
 use Rattle.laws.specs.Unique.{AnyInput}
 
 -- ---- what is said of an answer
@@ -55,9 +56,15 @@ abbrev pub Only : {A : Type 0} → (Refusal → A) → A → Type 0
 Only refused x = (why : Refusal) × (x ≡ refused why)
 
 -- a reading: accepted, it answers line 0; refused, a zero record and the line, which is 1 at least, and all words are 0
-pub record Read (x : ReadAnswer) (after before : List ℕ) : Type 0 where
+pub record Zeroes (x : ReadAnswer) (after before : List ℕ) : Type 0 where
   pub accepted : outcomeNumber (x .outcome) ≡ 0 → x .line ≡ 0
   pub refused : (outcomeNumber (x .outcome) ≡ 0 → ⊥) → (x .rec ≡ zeroRecord) × (1 ≤ x .line) × (after ≡ replicate (length before) 0)
+
+-- of a whole file: its number and its line are those of the first refused line, by the rows of Lines
+pub record Reads (bytes : List ℕ) (x : ReadAnswer) (after before : List ℕ) : Type 0 where
+  pub number : outcomeNumber (x .outcome) ≡ judgedFile bytes before .number
+  pub line : x .line ≡ judgedFile bytes before .line
+  pub left : Zeroes x after before
 
 -- a reader that is fed: where it and the table do not belong together, neither changes
 abbrev pub Feeds : Reader → List ℕ → Reader → List ℕ → Type 0
@@ -67,7 +74,7 @@ Feeds reader before x after = belongs reader before ≡ false → (x ≡ reader)
 pub record Finishes (reader : Reader) (before : List ℕ) (x : ReadAnswer) (after : List ℕ) : Type 0 where
   pub apart : belongs reader before ≡ false →
       (outcomeNumber (x .outcome) ≡ 2) × (x .rec ≡ zeroRecord) × (x .line ≡ 0) × (after ≡ before)
-  pub together : belongs reader before ≡ true → Read x after before
+  pub together : belongs reader before ≡ true → Zeroes x after before
 
 -- ---- C: lengths first
 
@@ -93,12 +100,13 @@ pub record OpensFromC (n : ℕ) (ws ts : List ℕ) (h : Head) (tick : ℕ) (ws-a
 abbrev pub TellsC : {A : Type 0} → ℕ → List ℕ → ℕ → List (Bool × ℕ) → List A → List A → Type 0
 TellsC n ws size rows out out-after = Numbered n (lengthRows ws out size rows) (out-after ≡ out)
 
--- a reading: lengths that are not right leave all as it came, and then a refused file leaves zeros and the line, which is 1 at least
-pub record ReadFromC (n : ℕ) (ws ts out ws-after ts-after out-after : List ℕ) : Type 0 where
+-- a reading: lengths that are not right leave all as it came; else number and line are the file's, and a refused file leaves zeros
+pub record ReadsFromC (bytes : List ℕ) (n : ℕ) (ws ts out ws-after ts-after out-after : List ℕ) : Type 0 where
   pub lengths : (lowest (lengthRows ws out 1 []) ≡ 0 → ⊥) →
       (n ≡ lowest (lengthRows ws out 1 [])) × (ws-after ≡ ws) × (ts-after ≡ ts) × (out-after ≡ out)
-  pub refused : lowest (lengthRows ws out 1 []) ≡ 0 → (n ≡ 0 → ⊥) →
-      (ws-after ≡ replicate recordWords 0) × (ts-after ≡ replicate (length ts) 0) × ((line : ℕ) × (1 ≤ line) × (out-after ≡ line ∷ []))
+  pub number : lowest (lengthRows ws out 1 []) ≡ 0 → n ≡ judgedFile bytes ts .number
+  pub line : lowest (lengthRows ws out 1 []) ≡ 0 → out-after ≡ judgedFile bytes ts .line ∷ []
+  pub refused : lowest (lengthRows ws out 1 []) ≡ 0 → (n ≡ 0 → ⊥) → (ws-after ≡ replicate recordWords 0) × (ts-after ≡ replicate (length ts) 0)
 
 -- ---- any input gets an answer
 
@@ -137,7 +145,7 @@ pub record Demand1 : Type 0 where
   pub touching : Answers answers.spans.touching.Kinds.ps answers.spans.touching.Kinds.r answers.spans.touching.Reads.Asked answers.spans.touching.Reads.Learnt
       (λ κs a x e. (lowest (touchingRows (a .0) (now (a .1 .0)) (a .1 .1 .0) (a .1 .1 .1 .0)) ≡ 0 → ⊥) → now x ≡ [])
   -- reading: bytes, table
-  pub read : Answers file.read.Kinds.ps file.read.Kinds.r file.read.Reads.Asked file.read.Reads.Learnt (λ κs a x e. Read x (now (e .1 .0)) (now (a .1 .0)))
+  pub read : Answers file.read.Kinds.ps file.read.Kinds.r file.read.Reads.Asked file.read.Reads.Learnt (λ κs a x e. Reads (now (a .0)) x (now (e .1 .0)) (now (a .1 .0)))
   -- piece by piece: reader, table, piece
   pub begins : AnyInput file.begin.Kinds.ps file.begin.Kinds.r file.begin.Reads.Asked
   pub feed : Answers file.feed.Kinds.ps file.feed.Kinds.r file.feed.Reads.Asked file.feed.Reads.Learnt
@@ -179,7 +187,7 @@ pub record Demand1 : Type 0 where
       (λ κs a x e. TellsC x (now (a .0)) 2 (touchingRows (recordOf (now (a .0))) (now (a .1 .0)) (record { 0 = a .1 .1 .0 }) (record { 0 = a .1 .1 .1 .0 })) (now (a .1 .1 .1 .1 .0)) (now (e .1 .1 .1 .1 .0)))
   -- C, reading: bytes, record, table, out
   pub c-read : Answers flonterri.flonterri_read.Kinds.ps flonterri.flonterri_read.Kinds.r flonterri.flonterri_read.Reads.Asked flonterri.flonterri_read.Reads.Learnt
-      (λ κs a x e. ReadFromC x (now (a .1 .0)) (now (a .1 .1 .0)) (now (a .1 .1 .1 .0)) (now (e .1 .0)) (now (e .1 .1 .0)) (now (e .1 .1 .1 .0)))
+      (λ κs a x e. ReadsFromC (now (a .0)) x (now (a .1 .0)) (now (a .1 .1 .0)) (now (a .1 .1 .1 .0)) (now (e .1 .0)) (now (e .1 .1 .0)) (now (e .1 .1 .1 .0)))
   -- C, writing: record, table, bytes, out
   pub c-write : Answers flonterri.flonterri_write.Kinds.ps flonterri.flonterri_write.Kinds.r flonterri.flonterri_write.Reads.Asked flonterri.flonterri_write.Reads.Learnt
       (λ κs a x e. Numbered x (lengthRows (now (a .0)) (now (a .1 .1 .1 .0)) 1 (writeRows (recordOf (now (a .0))) (now (a .1 .0)) (length (now (a .1 .1 .0)))))

@@ -11,19 +11,15 @@ use Rattle.units.specs.declared.Tick.{Tick}
 use Rattle.units.specs.Limits.{largestTick, largestNumber}
 use Rattle.window.specs.declared.Head.{Head}
 use Rattle.agreement.specs.declared.Record.{Record}
-use Rattle.timeline.specs.Opening.{zeroRecord, openAnswer, openTable}
+use Rattle.timeline.specs.Opening.{zeroRecord}
 use Rattle.frames.specs.declared.Frame.{Frame}
 use Rattle.frames.specs.declared.Frame.the-variants.{Head as HeadFrame, S, End, Clock, Bad}
 use Rattle.frames.specs.declared.SFields.{SFields}
 use Rattle.frames.specs.Frames.{kindOf, frameOf}
 use Rattle.file.specs.Lines.{linesOf, restOf}
 use Rattle.file.specs.Least.{leastFrom, enough, reaching}
-use Rattle.laws.specs.Calls.{Call, byTick, State, after}
+use Rattle.laws.specs.Calls.{Call, byTick, State, after, opening}
 use Rattle.laws.specs.Refusals.{lowest, overLimit, startsPast, noRunLeft, appendRows}
-
--- what an opening call leaves of a table that came with the words `came`
-abbrev pub opening : Head → Tick → List ℕ → State
-opening h t came = record { rec = openAnswer h t .rec; words = openTable h t came }
 
 -- ---- what an S line says
 

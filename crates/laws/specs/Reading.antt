@@ -6,23 +6,20 @@ use Prim.Native.Nat.{ℕ, _+_, _^_, _≤_, _<_}
 use mathlib.Core.Path.{_≡_}
 use mathlib.Core.List.{List, [], _∷_, _++_, map}
 use lib.ListN.{length}
-use Rattle.units.specs.Standing.{tickStanding, stampStanding}
 use Rattle.window.specs.declared.Head.{Head}
-use Rattle.keeping.specs.declared.Outcome.{Outcome}
 use Rattle.keeping.specs.declared.Outcome.the-variants.{Accepted}
 use Rattle.keeping.specs.Keeping.{outcomeNumber}
 use Rattle.timeline.specs.Opening.{openAnswer}
-use Rattle.timeline.specs.Appending.{appendAnswer}
-use Rattle.timeline.specs.Trimming.{trimAnswer}
 use Rattle.frames.specs.declared.Frame.{Frame}
 use Rattle.frames.specs.declared.Frame.the-variants.{Head as HeadFrame, S, End}
 use Rattle.frames.specs.declared.SFields.{SFields}
 use Rattle.frames.specs.Frames.{Fits}
 use Rattle.file.specs.Judging.{readAnswer, readTable}
 use Rattle.file.specs.Writing.{bytesOf}
-use Rattle.laws.specs.Calls.{Call, byTick, byStamp, trimAt, Plain, State, after, run}
+use Rattle.laws.specs.Calls.{Call, byTick, Plain, State, opening, after, run, outcomeOf, allAccepted}
 use Rattle.laws.specs.Demand2.{ExactlyWhen, Least}
-use Rattle.laws.specs.Lines.{opening, startOf, openingTick, countToEnd, judgedFile}
+use Rattle.laws.specs.History.{Holds}
+use Rattle.laws.specs.Lines.{startOf, openingTick, countToEnd, judgedFile}
 
 -- ---- the lines
 
@@ -62,12 +59,6 @@ StandFor x [] [] = Unit {0}
 StandFor x [] (c ∷ cs) = ⊥
 StandFor x (s ∷ ss) [] = ⊥
 StandFor x (s ∷ ss) (c ∷ cs) = StandsFor x s c × StandFor (after x c) ss cs
-
--- what a call answers
-abbrev pub outcomeOf : State → Call → Outcome
-outcomeOf x (byTick t d n) = appendAnswer (x .rec) (x .words) (tickStanding t (x .rec .next)) d n .outcome
-outcomeOf x (byStamp t d n) = appendAnswer (x .rec) (x .words) (stampStanding t (x .rec .next)) d n .outcome
-outcomeOf x (trimAt c) = trimAnswer (x .rec) (x .words) c .outcome
 
 -- every call is accepted
 abbrev pub AllAccepted : State → List Call → Type 0
@@ -110,6 +101,9 @@ pub record ReadingRight : Type 0 where
       readTable bytes came ≡ run (openingOf h s came) cs .words
   -- those appends are calls as any caller's, with durations of 32 bits: what is proved of all lists of calls holds of a file
   pub plain : (bytes came : List ℕ) (h : Head) (s : SFields) (ss : List SFields) (cs : List Call) → ReadsAs bytes came h s ss cs → Plain cs
+  -- and so demand 3 reaches a timeline that was read: its record and its table hold the accepted references of those appends, at clock 0
+  pub holds : (bytes came : List ℕ) (h : Head) (s : SFields) (ss : List SFields) (cs : List Call) → ReadsAs bytes came h s ss cs →
+      Holds h (openingTick s) (length came) (record { rec = readAnswer bytes came .rec; words = readTable bytes came }) (allAccepted (openingOf h s came) cs) 0
   -- for any bytes and any table the number is the one of the first refused line, by its rows, and 0 where none is
   pub number : (bytes came : List ℕ) → outcomeNumber (readAnswer bytes came .outcome) ≡ judgedFile bytes came .number
   -- the line is that line, a missing one where the file stops, and 0 where the file is accepted

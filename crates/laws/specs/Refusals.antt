@@ -1,7 +1,7 @@
 -- Given exactly when. Each call gives the lowest number whose condition holds, and 0 where none does, for any record, table and
 -- arguments: so it refuses what it should, and nothing else. A call is a table with a row for each of its numbers, in the words of
--- the paper's column. An append's duration is one of 32 bits, as its type says. The lines of a file are judged one by one, in
--- orders of their own (`file`'s Judging). Paper: Refusal numbers.
+-- the paper's column. An append's duration is one of 32 bits, as its type says. The rows of a file's lines stand in Lines.
+-- Paper: Refusal numbers.
 use Prim.Native.Nat.{ℕ, _+_, _*_, _^_, _≤_}
 use mathlib.Core.Path.{_≡_}
 use mathlib.Core.Bool.{Bool, false, cond, not, _&&_, _||_}
