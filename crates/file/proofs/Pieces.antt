@@ -15,7 +15,7 @@ use Rattle.file.specs.declared.Reading.{Reading}
 use Rattle.file.specs.declared.Reader.{Reader}
 use Rattle.file.specs.Lines.{linesFrom, restFrom, restOf}
 use Rattle.file.specs.Judging.{File, takeLines, readLines, readOutcome, answeredBy, readAnswer, zeroed, readTable}
-use Rattle.file.specs.Feeding.{longestHeld, heldPart, holding, belongs, begunReader, fedFile, fedReader, fedTable, finishOutcome, finishAnswer, finishTable, readerAfter, tableAfter, Fed, fedOn, fedPieces}
+use Rattle.file.specs.Feeding.{longestHeld, heldPart, holding, belongs, begunReader, fedFile, fedReader, fedTable, finishOutcome, finishAnswer, finishTable, readerAfter, tableAfter, Fed, fedOn, fedPieces, AnyCut}
 use Rattle.file.proofs.Cutting.{rest-append, read-append, same-lines, same-rest}
 use Rattle.file.proofs.Holding.{part-held, same-holding, holding-belongs}
 use Rattle.file.proofs.Sounding.{stage-is, read-sound}
@@ -108,14 +108,20 @@ fed-pieces fed came (piece ∷ pieces) =
 
 module _ (came : List ℕ) (pieces : List (List ℕ)) where
   -- begin, then a feed for each piece, wherever the bytes are cut
-  pub any-cut : fedPieces came pieces ≡ record { reader = readerAfter (flatten pieces) came; words = tableAfter (flatten pieces) came }
-  any-cut =
+  pieces-stand : fedPieces came pieces ≡ record { reader = readerAfter (flatten pieces) came; words = tableAfter (flatten pieces) came }
+  pieces-stand =
       ap₂ (λ (x : Reader) (ws : List ℕ). fedOn (record { reader = x; words = ws }) pieces) (fed-begun-reader came) (fed-begun-table came) ∙
       fed-pieces [] came pieces
 
-  -- and then finish: the answer and the table of reading all the bytes at once
-  pub any-cut-answer : finishAnswer (fedPieces came pieces .reader) (fedPieces came pieces .words) ≡ readAnswer (flatten pieces) came
-  any-cut-answer = ap (λ (f : Fed). finishAnswer (f .reader) (f .words)) any-cut ∙ fed-finish-answer (flatten pieces) came
+  pieces-belong : belongs (fedPieces came pieces .reader) (fedPieces came pieces .words) ≡ true
+  pieces-belong = ap (λ (f : Fed). belongs (f .reader) (f .words)) pieces-stand ∙ fed-belongs (flatten pieces) came
 
-  pub any-cut-table : finishTable (fedPieces came pieces .reader) (fedPieces came pieces .words) ≡ readTable (flatten pieces) came
-  any-cut-table = ap (λ (f : Fed). finishTable (f .reader) (f .words)) any-cut ∙ fed-finish-table (flatten pieces) came
+  -- and then finish: the answer and the table of reading all the bytes at once
+  pieces-answer : finishAnswer (fedPieces came pieces .reader) (fedPieces came pieces .words) ≡ readAnswer (flatten pieces) came
+  pieces-answer = ap (λ (f : Fed). finishAnswer (f .reader) (f .words)) pieces-stand ∙ fed-finish-answer (flatten pieces) came
+
+  pieces-table : finishTable (fedPieces came pieces .reader) (fedPieces came pieces .words) ≡ readTable (flatten pieces) came
+  pieces-table = ap (λ (f : Fed). finishTable (f .reader) (f .words)) pieces-stand ∙ fed-finish-table (flatten pieces) came
+
+pub any-cut : AnyCut
+any-cut = record { answer = pieces-answer; table = pieces-table; between = pieces-stand; together = pieces-belong }

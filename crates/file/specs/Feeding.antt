@@ -1,10 +1,12 @@
--- A file is read piece by piece, with its table lent at each call. After any pieces reader and table stand where reading all of their bytes comes to.
+-- A file is read piece by piece, with its table lent at each call. After any pieces reader and table stand where reading all of their bytes comes to,
+-- wherever the bytes are cut.
 -- Of a line that is not ended the reader holds the first bytes, as many as a frame can have and one more, and zeros behind them. A reader and a table
 -- that do not belong together are refused with 2: a feed changes neither, and the end answers 2 at line 0 and changes no word. Paper: The file (the
 -- program holds one line at a time and takes a file of any length); Record and table; Refusal numbers, 2.
 use Prim.Native.Nat.{ℕ, _+_, _-_, _^_, min}
-use mathlib.Core.Bool.{Bool, cond, _&&_}
-use mathlib.Core.List.{List, [], _∷_, _++_}
+use mathlib.Core.Path.{_≡_}
+use mathlib.Core.Bool.{Bool, true, cond, _&&_}
+use mathlib.Core.List.{List, [], _∷_, _++_, flatten as joined}
 use lib.Dec.{eqb, leb}
 use lib.ListN.{length, take, drop, replicate}
 use Rattle.window.specs.Limits.{headHeld}
@@ -22,7 +24,7 @@ use Rattle.file.specs.declared.Reading.{Reading}
 use Rattle.file.specs.declared.Reader.{Reader}
 use Rattle.file.specs.declared.ReadAnswer.{ReadAnswer}
 use Rattle.file.specs.Lines.{linesFrom, restFrom, restOf}
-use Rattle.file.specs.Judging.{File, sLines, takeLines, readLines, stopOutcome, answeredBy, zeroed}
+use Rattle.file.specs.Judging.{File, sLines, takeLines, readLines, stopOutcome, answeredBy, readAnswer, zeroed, readTable}
 
 -- ---- what a reader holds
 
@@ -109,3 +111,18 @@ fedOn f (piece ∷ pieces) = fedOn (record { reader = fedReader (f .reader) (f .
 -- from the beginning
 abbrev pub fedPieces : List ℕ → List (List ℕ) → Fed
 fedPieces came pieces = fedOn (record { reader = begunReader; words = came }) pieces
+
+-- ---- THE THEOREM: however a file is cut into pieces, it reads as the whole. Proved by `any-cut` of proofs/Pieces.antt
+
+pub record AnyCut : Type 0 where
+  -- begin, a feed for each piece and finish: the answer of reading all the bytes at once
+  pub answer : (came : List ℕ) (pieces : List (List ℕ)) →
+      finishAnswer (fedPieces came pieces .reader) (fedPieces came pieces .words) ≡ readAnswer (joined pieces) came
+  -- and every word of the table
+  pub table : (came : List ℕ) (pieces : List (List ℕ)) →
+      finishTable (fedPieces came pieces .reader) (fedPieces came pieces .words) ≡ readTable (joined pieces) came
+  -- on the way reader and table stand where the bytes so far bring them, so another cut of the same bytes changes nothing
+  pub between : (came : List ℕ) (pieces : List (List ℕ)) →
+      fedPieces came pieces ≡ record { reader = readerAfter (joined pieces) came; words = tableAfter (joined pieces) came }
+  -- and they belong together there: no feed is left out, and the end does not answer 2
+  pub together : (came : List ℕ) (pieces : List (List ℕ)) → belongs (fedPieces came pieces .reader) (fedPieces came pieces .words) ≡ true

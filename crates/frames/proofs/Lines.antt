@@ -14,6 +14,7 @@ use Rattle.hex.specs.Digits.{between, isDigit, areDigits}
 use Rattle.hex.proofs.Widths.{digit-at}
 use Rattle.frames.specs.Fields.{fieldDigits, fieldValues, Fit}
 use Rattle.frames.specs.Frames.{widthsOf, lineWidths, lineLength, longestLine, kindOf, valuesOf, frameFrom, isFrame, Fits, lineOf, endedLine, kindAt, frameAs, frameOf}
+use Rattle.frames.specs.Language.{Language}
 use Rattle.frames.specs.declared.Frame.{Frame}
 use Rattle.frames.specs.declared.Frame.the-variants.{Bad}
 use Rattle.frames.proofs.Cases.{not-frame, from-frame, kind-below, kind-from, length-within, values-from}
@@ -157,3 +158,17 @@ bad-exactly line = (none, only)
 -- two fitting frames with one line are equal
 pub one-line : (f g : Frame) → Fits f → Fits g → lineOf f ≡ lineOf g → f ≡ g
 one-line f g h k e = sym (frame-written-read f h) ∙ ap frameOf e ∙ frame-written-read g k
+
+-- ---- the statement
+
+pub language : Language
+language =
+    record {
+      exactly = exactly;
+      bad-exactly = bad-exactly;
+      one-line = one-line;
+      long = length-line;
+      digits = line-digits;
+      no-feed = no-feed;
+      too-long = too-long;
+    }

@@ -89,8 +89,8 @@ pub record Written (f : Frame) (before after : List ℕ) (n : ℕ) : Type 0 wher
 unfoldable pub frameAs : ℕ → List ℕ → Frame
 frameAs k line = frameFrom k (fieldValues (widthsOf k) (drop 2 line))
 
--- what frame a line is: its first byte says its kind, and the kind its length and its fields. proofs/Lines.antt has the laws
--- that it is exactly the frame that fits and has this line
+-- what frame a line is: its first byte says its kind, and the kind its length and its fields. So it is exactly the frame that
+-- fits and has this line: `Language`
 abbrev pub kindAt : List ℕ → ℕ
 kindAt line = numberOf (take 2 line)
 
