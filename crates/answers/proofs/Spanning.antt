@@ -3,7 +3,7 @@ use mathlib.Core.Path.{_≡_, refl, sym, ap, ap₂, subst, subst⁻¹, _∙_}
 use mathlib.Core.Bool.{Bool, true, false, cond}
 use mathlib.Core.List.{List, [], _∷_, _++_}
 use Prim.Native.Nat.{ℕ, zero, suc, _+_, _-_, _*_, _^_, _≤_, _<_, min, max}
-use native.Mathlib.Nat.{add-zero}
+use native.Mathlib.Nat.{add-zero, not-suc-le-zero, le-of-suc-le-suc}
 use native.Mathlib.Omega.{arith}
 use borrow.Author.Tests.{ltb-true, ltb-false, lt-ltb, le-ltb, eqb-false, ne-eqb}
 use lib.Dec.{ltb, eqb}
@@ -56,7 +56,7 @@ module _ (t : Run → Bool) where
       go true l = omega arith
       go false l = omega arith
 
-  upto-most : (rs : List Run) → uptoLast t rs ≤ length rs
+  pub upto-most : (rs : List Run) → uptoLast t rs ≤ length rs
   unfolding uptoLast
   upto-most [] = omega arith
   upto-most (r ∷ rs) = go (eqb (uptoLast t rs) 0) (t r) (upto-most rs)
@@ -67,7 +67,7 @@ module _ (t : Run → Bool) where
       go false u l = omega arith
 
   -- the first that touches stands before the last, or is it
-  before-upto : (rs : List Run) → (uptoLast t rs ≡ 0 → ⊥) → beforeFirst t rs < uptoLast t rs
+  pub before-upto : (rs : List Run) → (uptoLast t rs ≡ 0 → ⊥) → beforeFirst t rs < uptoLast t rs
   unfolding beforeFirst uptoLast
   before-upto [] o = absurd (o refl)
   before-upto (r ∷ rs) o = go (eqb (uptoLast t rs) 0) refl (t r) o (before-upto rs)
@@ -94,17 +94,18 @@ module _ (t : Run → Bool) where
 
 -- ---- runs of a table
 
-fewer : (n : ℕ) (ws : List ℕ) → take n (runsOf (suc n) ws) ≡ runsOf n ws
+pub first-runs : (n m : ℕ) (ws : List ℕ) → n ≤ m → take n (runsOf m ws) ≡ runsOf n ws
 unfolding runsOf
-fewer zero ws = refl
-fewer (suc n) ws = ap (λ rs. runAt ws 0 ∷ rs) (fewer n (drop 3 ws))
+first-runs zero m ws l = refl
+first-runs (suc n) zero ws l = absurd (not-suc-le-zero l)
+first-runs (suc n) (suc m) ws l = ap (λ rs. runAt ws 0 ∷ rs) (first-runs n m (drop 3 ws) (le-of-suc-le-suc l))
 
 run-end : (n : ℕ) (ws : List ℕ) → runsOf (suc n) ws ≡ runsOf n ws ++ runAt ws (n * 3) ∷ []
 run-end n ws =
     let all : length (runsOf (suc n) ws) ≤ n + 1 = omega (arith, runs-length (suc n) ws) in
     let none : drop (n + 1) (runsOf (suc n) ws) ≡ [] = drop-of-length-le (runsOf (suc n) ws) all in
     sym (take-append-drop n (runsOf (suc n) ws)) ∙
-    ap₂ _++_ (fewer n ws) (runs-from (suc n) n ws (omega arith) ∙ ap (λ rs. runAt ws (n * 3) ∷ rs) none)
+    ap₂ _++_ (first-runs n (suc n) ws (omega arith)) (runs-from (suc n) n ws (omega arith) ∙ ap (λ rs. runAt ws (n * 3) ∷ rs) none)
 
 pub span-held : (ws : List ℕ) (used : ℕ) → shaped used ws ≡ true → (j : ℕ) (x : Run) → j < used → x ≡ runAt ws (j * 3) → runHeld x ≡ true
 span-held ws used sh j x l e =

@@ -1,15 +1,19 @@
 -- The runs that touch a span of ticks. A run touches a span where the two share a stretch of positive length: to meet an
 -- edge is not to touch. Answered as the words from the first touching run to the last, and as that part of the table; none
--- if no run touches. Refused with 2 or 14, and then the part is empty. Paper: Verdict and availability; Refusal numbers.
-use Prim.Native.Nat.{ℕ, suc, _*_, _-_, min, max}
-use mathlib.Core.Bool.{Bool, cond}
-use mathlib.Core.List.{List, [], _∷_}
+-- if no run touches. The part holds exactly the runs that touch. Refused with 2 or 14, and then the part is empty. Paper:
+-- Verdict and availability; Refusal numbers.
+use Prim.Native.Nat.{ℕ, suc, _+_, _*_, _-_, _≤_, _<_, min, max}
+use mathlib.Core.Path.{_≡_}
+use mathlib.Core.Logic.{_↔_}
+use mathlib.Core.Bool.{Bool, true, false, cond}
+use mathlib.Core.List.{List, [], _∷_, _++_}
 use lib.Dec.{eqb, ltb}
 use lib.ListN.{take, drop}
 use Rattle.units.specs.declared.WideTick.{WideTick}
 use Rattle.runs.specs.declared.Run.{Run}
-use Rattle.runs.specs.Words.{runsOf, runEnd}
+use Rattle.runs.specs.Words.{runAt, runsOf, wordsOf, runEnd}
 use Rattle.agreement.specs.declared.Record.{Record}
+use Rattle.agreement.specs.declared.refusal.Refusal.{Refusal}
 use Rattle.agreement.specs.declared.refusal.Refusal.the-variants.{Disagreement, EmptySpan}
 use Rattle.agreement.specs.Agreement.{agrees}
 use Rattle.answers.specs.declared.Touching.{Touching}
@@ -44,3 +48,30 @@ touchingWords rec ws a b =
 abbrev pub partOf : Touching → List ℕ → List ℕ
 partOf (Words from to) ws = take (to - from) (drop from ws)
 partOf (Refused r) ws = []
+
+-- ---- THE THEOREM: what the part holds, and where it lies. Proved by `touching-part` of proofs/Exact.antt
+
+-- the runs of a list that pass a test, in their order
+unfoldable pub passing : (Run → Bool) → List Run → List Run
+passing t [] = []
+passing t (r ∷ rs) = cond (t r) (r ∷ passing t rs) (passing t rs)
+
+pub record TouchingPart : Type 0 where
+  -- where record and table agree and a lies before b, the part is the words of the used runs that touch: all of them, no
+  -- other, in their order
+  pub runs : (rec : Record) (ws : List ℕ) (a b : WideTick) → agrees rec ws ≡ true → a .0 < b .0 →
+      partOf (touchingWords rec ws a b) ws ≡ wordsOf (passing (touches (a .0) (b .0)) (runsOf (rec .used) ws))
+  -- the words that are named lie in the table, and the part stands there, between what stands before it and behind it
+  pub within : (rec : Record) (ws : List ℕ) (a b : WideTick) (from to : ℕ) → touchingWords rec ws a b ≡ Words from to →
+      (from ≤ to) × (to ≤ 3 * rec .used)
+  pub place : (rec : Record) (ws : List ℕ) (a b : WideTick) (from to : ℕ) → touchingWords rec ws a b ≡ Words from to →
+      ws ≡ take from ws ++ partOf (touchingWords rec ws a b) ws ++ drop to ws
+  -- a used run stands between them, with all of its three words, exactly where it touches
+  pub inside : (rec : Record) (ws : List ℕ) (a b : WideTick) (from to : ℕ) → touchingWords rec ws a b ≡ Words from to →
+      (j : ℕ) → j < rec .used → (touches (a .0) (b .0) (runAt ws (j * 3)) ≡ true) ↔ ((from ≤ j * 3) × (j * 3 + 3 ≤ to))
+  -- where no used run touches, the part is empty
+  pub none : (rec : Record) (ws : List ℕ) (a b : WideTick) → ((j : ℕ) → j < rec .used → touches (a .0) (b .0) (runAt ws (j * 3)) ≡ false) →
+      partOf (touchingWords rec ws a b) ws ≡ []
+  -- and so it is where the call is refused
+  pub refused : (rec : Record) (ws : List ℕ) (a b : WideTick) (why : Refusal) → touchingWords rec ws a b ≡ Refused why →
+      partOf (touchingWords rec ws a b) ws ≡ []

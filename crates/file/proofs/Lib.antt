@@ -10,6 +10,7 @@ pub mod Turning
 pub mod Stopping
 pub mod Pieces
 pub mod Never
+pub mod Clocks
 pub mod Output
 pub mod Whole
 pub mod Again
