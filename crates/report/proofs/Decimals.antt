@@ -1,19 +1,19 @@
--- Decimal text: it needs no count of tenths, and it is the fewest digits that hold the number. A number of 64 bits has 20 at most.
+-- Decimal text: it needs no count of tenths, it is the fewest digits that hold the number, and it reads back. A number of 64 bits has 20 at most.
 use mathlib.Core.Path.{_≡_, refl, sym, ap, ap₂, subst, subst⁻¹, _∙_}
-use mathlib.Core.Bool.{Bool, true, false, cond}
-use mathlib.Core.List.{List, [], _∷_, _++_}
+use mathlib.Core.Bool.{Bool, true, false, cond, _&&_}
+use mathlib.Core.List.{List, [], _∷_, _++_, append-assoc}
 use Prim.Native.Nat.{ℕ, zero, suc, _+_, _-_, _*_, _/_, _%_, _^_, _≤_, _<_}
 use native.Mathlib.Nat.{pow-suc, one-le-pow, pow-le-pow-right, mod-eq-of-lt}
 use native.Mathlib.Numerals.{sub-one}
 use native.Mathlib.Omega.{arith}
-use borrow.Author.Tests.{lt-ltb, le-ltb, ltb-true, ltb-false, leb-true, leb-false}
+use borrow.Author.Tests.{le-leb, lt-ltb, le-ltb, ltb-true, ltb-false, leb-true, leb-false}
 use lib.Dec.{leb, ltb}
 use lib.ListN.{length, take}
 use mir.Syntax.{w64}
 use mir.Val.{Fits}
 use Rattle.io.specs.Counts.{Counts}
 use Rattle.io.specs.Digits.{glyph, digits, Fewest}
-use Rattle.report.specs.Text.{digit, decimalBy, decimal}
+use Rattle.report.specs.Text.{digit, decimalBy, decimal, goesOn, readFrom}
 use Rattle.report.specs.Placing.{Put}
 use Rattle.report.proofs.Placed.{put-put}
 
@@ -76,6 +76,41 @@ few-by (suc f) n (suc (suc k)) a w =
 pub fewest-decimal : (n k : ℕ) → Fewest 10 1 n k → digits 10 k n ≡ decimal n
 unfolding decimal
 fewest-decimal n k w = few-by n n k (omega arith) w
+
+-- ---- read back
+
+-- what is read before a digit is its tenth
+read-digit : (m n d : ℕ) (behind : List ℕ) → d < 10 → m * 10 + d ≡ n → readFrom m (digit d ∷ behind) ≡ readFrom n behind
+unfolding readFrom
+read-digit m n d behind l e =
+    let value : m * 10 + (48 + d - 48) ≡ n = omega arith in
+    ap₂ (λ s t. cond (s && t) (readFrom (m * 10 + (48 + d - 48)) behind) m) (le-leb 48 (48 + d) (omega arith)) (le-leb (48 + d) 57 (omega arith)) ∙
+    ap (λ (k : ℕ). readFrom k behind) value
+
+read-by : (f n : ℕ) (behind : List ℕ) → n ≤ f → readFrom 0 (decimalBy f n ++ behind) ≡ readFrom n behind
+read-by zero n behind a = ap (λ ds. readFrom 0 (ds ++ behind)) (one-digit 0 n (omega arith)) ∙ read-digit 0 n n behind (omega arith) (omega arith)
+read-by (suc f) n behind a = go (ltb n 10) refl (read-by f (n / 10) (digit (n % 10) ∷ behind))
+  where
+    go : (t : Bool) → ltb n 10 ≡ t → (n / 10 ≤ f → readFrom 0 (decimalBy f (n / 10) ++ digit (n % 10) ∷ behind) ≡ readFrom (n / 10) (digit (n % 10) ∷ behind)) →
+        readFrom 0 (decimalBy (suc f) n ++ behind) ≡ readFrom n behind
+    go true e ih =
+        let l = ltb-true n 10 e in
+        ap (λ ds. readFrom 0 (ds ++ behind)) (one-digit (suc f) n l) ∙ read-digit 0 n n behind l (omega arith)
+    go false e ih =
+        let l = ltb-false n 10 e in
+        ap (λ ds. readFrom 0 (ds ++ behind)) (more-digits f n l) ∙
+        ap (readFrom 0) (append-assoc (decimalBy f (n / 10)) (digit (n % 10) ∷ []) behind) ∙
+        ih (omega arith) ∙
+        read-digit (n / 10) n (n % 10) behind (omega arith) (omega arith)
+
+read-ends : (n : ℕ) (behind : List ℕ) → goesOn behind ≡ false → readFrom n behind ≡ n
+unfolding readFrom
+read-ends n [] e = refl
+read-ends n (b ∷ bs) e = ap (λ t. cond t (readFrom (n * 10 + (b - 48)) bs) n) e
+
+pub decimal-read : (n : ℕ) (behind : List ℕ) → goesOn behind ≡ false → readFrom 0 (decimal n ++ behind) ≡ n
+unfolding decimal
+decimal-read n behind e = read-by n n behind (omega arith) ∙ read-ends n behind e
 
 pub few-digits : (n k : ℕ) → n < 2 ^ 64 → Fewest 10 1 n k → k ≤ 20
 few-digits n k small w = go (leb k 20) refl

@@ -3,6 +3,7 @@ pub mod Placed
 pub mod Decimals
 pub mod Worded
 pub mod Shares
+pub mod Figures
 pub mod Shown
 pub mod Clocks
 pub mod Cuts

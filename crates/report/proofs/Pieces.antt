@@ -1,7 +1,7 @@
 -- THE THEOREM: in whatever pieces an input comes, desk and table stand where the whole of it brings them, and the reply is the reply to the whole.
 use mathlib.Core.Path.{_≡_, refl, sym, ap, ap₂, _∙_}
 use mathlib.Core.Bool.{Bool, true, false, cond}
-use mathlib.Core.List.{List, [], _∷_, _++_, append-assoc, append-nil}
+use mathlib.Core.List.{List, [], _∷_, _++_, flatten as joined, append-assoc, append-nil}
 use Prim.Native.Nat.{ℕ, _+_, _-_, _≤_}
 use native.Mathlib.Omega.{arith}
 use lib.ListN.{length, take, drop, replicate, length-append, length-take, length-replicate}
@@ -20,10 +20,11 @@ use Rattle.report.specs.Input.{hasFeed, firstLine, behindFirst}
 use Rattle.report.specs.Clock.{askedOn}
 use Rattle.report.specs.Text.{textOf}
 use Rattle.report.specs.Answer.{askedIn, listens, replyOn, replyIn, tableIn, answerIn, tableLength}
-use Rattle.report.specs.Hearing.{Standing, over, heldPart, heldWith, holding, heard, begunDesk, readOn, hearOn, fed, replyBy, tableBy, fedAll, joined, afterAll, AnyPieces, Brought}
+use Rattle.report.specs.Hearing.{Standing, over, heldPart, heldWith, holding, heard, begunDesk, readOn, hearOn, fed, replyBy, tableBy, fedAll, afterAll, AnyPieces, Brought, Tells, Answered}
 use Rattle.report.proofs.Clocks.{held-asks, asks-some}
 use Rattle.report.proofs.Cuts.{unfed-line, unfed-has, unfed-behind, fed-line, fed-has, fed-behind}
 use Rattle.report.proofs.Lent.{same-reply}
+use Rattle.report.proofs.Told.{told-within}
 
 -- ---- the reader, from nothing
 
@@ -264,3 +265,23 @@ heard-more came d ws h piece x vs j k =
           ap (λ (s : Standing). fed (s .desk) (s .words) piece) (h .so) ∙
           sym (fed-last (record { desk = begunDesk; words = came }) (h .pieces) piece);
     }
+
+-- ---- the line that is told
+
+-- a text over the front of an output stands there
+module _ (text out after : List ℕ) (n : ℕ) (e : n ≡ length text) (f : after ≡ over text out) where
+  told-there : take n after ≡ text
+  told-there = ap (take n) f ∙ take-at text (drop (length text) out) n (sym e)
+
+pub tells : (d : Desk) (ws out after : List ℕ) (n : ℕ) → n ≡ length (textOf (replyBy d ws)) → after ≡ over (textOf (replyBy d ws)) out → Tells d ws after n
+tells d ws out after n e f =
+    record {
+      within = told-within (textOf (replyBy d ws)) out after n e f;
+      line = λ came l b.
+          told-there (textOf (replyBy d ws)) out after n e f ∙
+          ap (λ (s : Standing). textOf (replyBy (s .desk) (s .words))) (b .so) ∙
+          any-pieces .text came (b .pieces) l;
+    }
+
+pub answered : (came : List ℕ) (d : Desk) (ws out : List ℕ) (n : ℕ) → length came ≡ tableLength → Brought came d ws → Tells d ws out n → Answered out n
+answered came d ws out n l b t = record { within = t .within; pieces = b .pieces; line = t .line came l b }

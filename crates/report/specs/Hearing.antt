@@ -1,10 +1,10 @@
 -- The input may come in pieces of any size, with the table lent for each. While the clock line is not ended a desk holds its first bytes, one more
 -- than its digits; once it is, what it asks; and from then on the pieces go to the reader of the file, unless the clock line was refused. At the end
 -- comes the reply. Any desk and any table have an answer. Paper: The file (the program holds one line at a time and takes a file of any length).
-use Prim.Native.Nat.{ℕ, _+_}
+use Prim.Native.Nat.{ℕ, _+_, _≤_}
 use mathlib.Core.Path.{_≡_}
 use mathlib.Core.Bool.{cond}
-use mathlib.Core.List.{List, [], _∷_, _++_}
+use mathlib.Core.List.{List, [], _∷_, _++_, flatten as joined}
 use lib.ListN.{length, take, drop, replicate}
 use Rattle.units.specs.declared.Millis.{Millis}
 use Rattle.frames.specs.Frames.{lineLength}
@@ -102,10 +102,6 @@ unfoldable pub fedAll : Standing → List (List ℕ) → Standing
 fedAll s [] = s
 fedAll s (piece ∷ pieces) = fedAll (fed (s .desk) (s .words) piece) pieces
 
-unfoldable pub joined : List (List ℕ) → List ℕ
-joined [] = []
-joined (piece ∷ pieces) = piece ++ joined pieces
-
 -- desk and table after some pieces, from a table that came with the words `came`
 abbrev pub afterAll : List ℕ → List (List ℕ) → Standing
 afterAll came pieces = fedAll (record { desk = begunDesk; words = came }) pieces
@@ -120,3 +116,17 @@ pub record AnyPieces : Type 0 where
 pub record Brought (came : List ℕ) (d : Desk) (ws : List ℕ) : Type 0 where
   pub pieces : List (List ℕ)
   pub so : record { desk = d; words = ws } ≡ afterAll came pieces
+
+-- ---- what the program writes. No contract can say which bytes a read brings; of whatever bytes they are, this is said
+
+-- n bytes at the front of an output tell a desk and its table: whichever pieces brought them where they stand, from any 3,072 words, they are the
+-- answer to all the bytes of those pieces
+pub record Tells (d : Desk) (ws out : List ℕ) (n : ℕ) : Type 0 where
+  pub within : n ≤ length out
+  pub line : (came : List ℕ) → length came ≡ tableLength → (b : Brought came d ws) → take n out ≡ answer (joined (b .pieces))
+
+-- n bytes at the front of an output are the answer to all the bytes of some pieces
+pub record Answered (out : List ℕ) (n : ℕ) : Type 0 where
+  pub within : n ≤ length out
+  pub pieces : List (List ℕ)
+  pub line : take n out ≡ answer (joined pieces)

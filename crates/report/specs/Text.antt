@@ -1,15 +1,19 @@
 -- The answer is one line of text with its line feed: `nothing needed`, `complete 10000/10000 100%`, `lacking 20000 9999/10000 99%` or
 -- `refused 16 line 2`, numbers in decimal. A share is covered, needed and the percent, rounded down; what lacks is the lowest tick that is not
 -- covered; a refusal has its number and its line, and line 0 where it is the verdict's. Paper: The file (the program writes one line).
-use Prim.Native.Nat.{ℕ, zero, suc, _+_, _*_, _/_, _%_}
+use Prim.Native.Nat.{ℕ, zero, suc, _+_, _-_, _*_, _/_, _%_}
 use mathlib.Core.Path.{_≡_}
-use mathlib.Core.Bool.{cond}
+use mathlib.Core.Bool.{Bool, false, cond, _&&_}
 use mathlib.Core.List.{List, [], _∷_, _++_}
-use lib.Dec.{ltb}
+use lib.Dec.{leb, ltb}
+use Rattle.io.specs.Digits.{digits, Fewest}
+use Rattle.units.specs.declared.Millis.{Millis}
+use Rattle.agreement.specs.declared.Record.{Record}
 use Rattle.agreement.specs.declared.refusal.Refusal.{Refusal}
 use Rattle.agreement.specs.Numbers.{refusalNumber}
 use Rattle.answers.specs.declared.Verdict.{Verdict}
 use Rattle.answers.specs.declared.Verdict.the-variants as verdict
+use Rattle.answers.specs.Judgement.{verdictAt, verdictWhole}
 use Rattle.answers.specs.Shares.{percentOf, percentNumber}
 use Rattle.frames.specs.Worked.{bytesOf as ascii}
 use Rattle.file.specs.Lines.{lineFeed}
@@ -21,7 +25,7 @@ abbrev pub digit : ℕ → ℕ
 digit d = 48 + d
 
 -- a number below ten is one digit; a larger one has the digits of its tenth, rounded down, and then its last digit. Each tenth takes one off the
--- first argument, and n tenths of n are more than enough: `decimal-is` of proofs/Decimals.antt says the same with no such count
+-- first argument, and n tenths of n are more than enough: `Figures` below says the same with no such count
 unfoldable pub decimalBy : ℕ → ℕ → List ℕ
 decimalBy zero n = digit n ∷ []
 decimalBy (suc more) n = cond (ltb n 10) (digit n ∷ []) (decimalBy more (n / 10) ++ digit (n % 10) ∷ [])
@@ -29,7 +33,7 @@ decimalBy (suc more) n = cond (ltb n 10) (digit n ∷ []) (decimalBy more (n / 1
 unfoldable pub decimal : ℕ → List ℕ
 decimal n = decimalBy n n
 
--- a share that has no percent would show 0; no verdict has such a share (PercentRight, below)
+-- a share that has no percent would show 0; no verdict has such a share (`Figures`, below)
 unfoldable pub shareText : ℕ → ℕ → List ℕ
 shareText covered needed =
     decimal covered ++
@@ -54,10 +58,35 @@ unfoldable pub textOf : Reply → List ℕ
 textOf (Judged v) = verdictText v
 textOf (Refused why line) = refusedText why line
 
--- what the percent that is shown must be: of a complete verdict 100, of one that lacks covered times 100 by needed, rounded down. So it is for each
--- verdict that is asked: `percent-right-at` and `percent-right-whole` of proofs/Shares.antt
+-- ---- THE THEOREM: the figures in a line are right. Proved by `figures` of proofs/Figures.antt
+
+-- what the percent that is shown must be: of a complete verdict 100, of one that lacks covered times 100 by needed, rounded down
 abbrev pub PercentRight : Verdict → Type 0
 PercentRight verdict.Nothing = Unit {0}
 PercentRight (verdict.Complete needed) = percentNumber (percentOf needed needed) ≡ 100
 PercentRight (verdict.Lacking needed covered lowest) = percentNumber (percentOf covered needed) ≡ covered * 100 / needed
 PercentRight (verdict.Refused why) = Unit {0}
+
+abbrev pub isDecimal : ℕ → Bool
+isDecimal b = leb 48 b && leb b 57
+
+-- whether some bytes begin with a decimal digit
+abbrev pub goesOn : List ℕ → Bool
+goesOn [] = false
+goesOn (b ∷ bs) = isDecimal b
+
+-- the number that is read from the digits in front of some bytes, with n read before them
+unfoldable pub readFrom : ℕ → List ℕ → ℕ
+readFrom n [] = n
+readFrom n (b ∷ bs) = cond (isDecimal b) (readFrom (n * 10 + (b - 48)) bs) n
+
+pub record Figures : Type 0 where
+  -- the percent is right in every verdict that is asked, at a clock and of the whole period
+  pub percent-at : (rec : Record) (ws : List ℕ) (c : Millis) → PercentRight (verdictAt rec ws c)
+  pub percent-whole : (rec : Record) (ws : List ℕ) → PercentRight (verdictWhole rec ws)
+  -- the text of a number is one digit, or the text of its tenth and the last digit
+  pub decimal-is : (n : ℕ) → decimal n ≡ cond (ltb n 10) (digit n ∷ []) (decimal (n / 10) ++ digit (n % 10) ∷ [])
+  -- and is of the fewest digits that hold the number, so that no zero stands in front
+  pub fewest : (n k : ℕ) → Fewest 10 1 n k → digits 10 k n ≡ decimal n
+  -- whoever reads its digits, up to the first byte that is none, has the number: so it is the only one with this text
+  pub read : (n : ℕ) (behind : List ℕ) → goesOn behind ≡ false → readFrom 0 (decimal n ++ behind) ≡ n

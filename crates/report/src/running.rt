@@ -1,7 +1,8 @@
-// The program's reads and its one write. No contract can say which bytes a read brings or a write takes,
-// so what is stated of them is that they are safe and that the loop ends, and of the loop that desk and
-// table stand where some pieces of input bring them. All that is between the reads and the write is proved.
-ghost use Rattle.report.specs.Hearing.{Brought};
+// The program's reads and its one write. No contract can say which bytes a read brings or a write takes.
+// Stated is what lies between: the loop ends and leaves desk and table where some pieces of input bring
+// them, and the line that is made then is the answer to all the bytes of those pieces. `run` hands that
+// line to the write, and does nothing else.
+ghost use Rattle.report.specs.Hearing.{Brought, Tells, Answered};
 use crate::Desk;
 use crate::hearing;
 use crate::replying;
@@ -28,11 +29,25 @@ fn hear_all(table: &mut [u64]) -> Desk
     desk
 }
 
-// Reads standard input to its end, and writes the answer to standard output.
-pub fn run() {
+// The line to the pieces that brought desk and table where they stand, whichever they are.
+fn tell(desk: Desk, table: &mut [u64], out: &mut [u8; 93]) -> usize
+    ensures { λ r. ⌜ Tells desk (now (table .entry)) (now (out .exit)) r ⌝ }
+{
+    replying::answer(desk, table, out)
+}
+
+// Reads standard input to its end, and makes the line.
+fn answer_input(out: &mut [u8; 93]) -> usize
+    ensures { λ r. ⌜ Answered (now (out .exit)) r ⌝ }
+{
     let mut table = [0u64; 3072];
-    let mut line = [0u8; 93];
     let desk = hear_all(&mut table);
-    let count = replying::answer(desk, &mut table, &mut line);
+    tell(desk, &mut table, out)
+}
+
+// Writes the answer to standard output.
+pub fn run() {
+    let mut line = [0u8; 93];
+    let count = answer_input(&mut line);
     io::write_all(STDOUT_FILENO, &line[..count]);
 }
