@@ -9,6 +9,8 @@ pub mod Verdicts
 pub mod Offers
 pub mod Files
 pub mod Demand2
+pub mod DeskLines
+pub mod Desk
 pub mod Rows
 pub mod Changing
 pub mod Reach

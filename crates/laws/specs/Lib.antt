@@ -1,6 +1,7 @@
 pub mod ByHand
 pub mod Calls
 pub mod Demand2
+pub mod Desk
 pub mod History
 pub mod Lines
 pub mod Reading

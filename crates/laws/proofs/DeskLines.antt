@@ -1,0 +1,90 @@
+-- The desk's four lines: which verdict is told by which, and that a line has its figures from nowhere else.
+use mathlib.Core.Path.{_≡_, refl, sym, ap, ap₂, _∙_}
+use mathlib.Core.Bool.{false}
+use mathlib.Core.List.{List, [], _∷_, _++_, append-assoc}
+use Prim.Native.Nat.{ℕ, _*_, _/_}
+use lib.ListN.{length, drop}
+use lib.Seq.{drop-append-seam}
+use Rattle.units.specs.declared.WideTick.{WideTick}
+use Rattle.answers.specs.declared.Verdict.the-variants as verdict
+use Rattle.answers.specs.Shares.{percentOf, percentNumber}
+use Rattle.frames.specs.Worked.{bytesOf as ascii}
+use Rattle.file.specs.Lines.{lineFeed}
+use Rattle.report.specs.Text.{decimalBy, decimal, shareText, verdictText, goesOn, readFrom}
+use Rattle.report.proofs.Figures.{figures}
+use Rattle.laws.specs.Desk.{completeLine, lackingLine, refusedLine}
+
+-- ---- two numbers, each in front of some bytes that are no digits
+
+same-number : (m n : ℕ) (xs ys : List ℕ) → goesOn xs ≡ false → goesOn ys ≡ false → decimal m ++ xs ≡ decimal n ++ ys → (m ≡ n) × (xs ≡ ys)
+same-number m n xs ys a b e =
+    let k : m ≡ n = sym (figures .read m xs a) ∙ ap (readFrom 0) e ∙ figures .read n ys b in (
+      k,
+      sym (drop-append-seam (decimal m) xs) ∙
+          ap₂ (λ (j : ℕ) (l : List ℕ). drop j l) (ap (λ (j : ℕ). length (decimal j)) k) e ∙
+          drop-append-seam (decimal n) ys,
+    )
+
+-- ---- complete
+
+abbrev behindComplete : ℕ → List ℕ
+behindComplete n = 47 ∷ (decimal n ++ (32 ∷ 49 ∷ 48 ∷ 48 ∷ 37 ∷ 10 ∷ []))
+
+complete-is : (n : ℕ) → completeLine n ≡ ascii "complete " ++ (decimal n ++ behindComplete n)
+unfolding ascii
+complete-is n = simp append-assoc
+
+pub one-complete : (m n : ℕ) → completeLine m ≡ completeLine n → m ≡ n
+unfolding ascii
+one-complete m n e =
+    same-number m n (behindComplete m) (behindComplete n) refl refl (ap (drop 9) (sym (complete-is m) ∙ e ∙ complete-is n)) .0
+
+pub complete-text : (n : ℕ) → percentNumber (percentOf n n) ≡ 100 → verdictText (verdict.Complete n) ≡ completeLine n
+unfolding ascii verdictText shareText decimal decimalBy
+complete-text n p =
+    ap (λ (q : ℕ). ascii "complete " ++ (decimal n ++ ascii "/" ++ decimal n ++ ascii " " ++ decimal q ++ ascii "%" ++ 10 ∷ [])) p ∙ simp append-assoc
+
+-- ---- lacking
+
+abbrev behindNeeded : ℕ → ℕ → List ℕ
+behindNeeded n m = 32 ∷ (decimal (m * 100 / n) ++ (37 ∷ 10 ∷ []))
+
+abbrev behindCovered : ℕ → ℕ → List ℕ
+behindCovered n m = 47 ∷ (decimal n ++ behindNeeded n m)
+
+abbrev behindLowest : ℕ → ℕ → List ℕ
+behindLowest n m = 32 ∷ (decimal m ++ behindCovered n m)
+
+lacking-is : (n m k : ℕ) → lackingLine n m k ≡ ascii "lacking " ++ (decimal k ++ behindLowest n m)
+unfolding ascii
+lacking-is n m k = simp append-assoc
+
+pub one-lacking : (n m k n₁ m₁ k₁ : ℕ) → lackingLine n m k ≡ lackingLine n₁ m₁ k₁ → (n ≡ n₁) × (m ≡ m₁) × (k ≡ k₁)
+unfolding ascii
+one-lacking n m k n₁ m₁ k₁ e =
+    let x = same-number k k₁ (behindLowest n m) (behindLowest n₁ m₁) refl refl (ap (drop 8) (sym (lacking-is n m k) ∙ e ∙ lacking-is n₁ m₁ k₁)) in
+    let y = same-number m m₁ (behindCovered n m) (behindCovered n₁ m₁) refl refl (ap (drop 1) (x .1)) in
+    let z = same-number n n₁ (behindNeeded n m) (behindNeeded n₁ m₁) refl refl (ap (drop 1) (y .1)) in
+    (z .0, y .0, x .0)
+
+pub lacking-text : (n m : ℕ) (k : WideTick) → percentNumber (percentOf m n) ≡ m * 100 / n → verdictText (verdict.Lacking n m k) ≡ lackingLine n m (k .0)
+unfolding verdictText shareText
+lacking-text n m k p =
+    ap (λ (q : ℕ). ascii "lacking " ++ decimal (k .0) ++ ascii " " ++ (decimal m ++ ascii "/" ++ decimal n ++ ascii " " ++ decimal q ++ ascii "%" ++ lineFeed ∷ [])) p ∙
+    simp append-assoc
+
+-- ---- refused
+
+abbrev behindNumber : ℕ → List ℕ
+behindNumber line = 32 ∷ 108 ∷ 105 ∷ 110 ∷ 101 ∷ 32 ∷ (decimal line ++ (10 ∷ []))
+
+refused-is : (number line : ℕ) → refusedLine number line ≡ ascii "refused " ++ (decimal number ++ behindNumber line)
+unfolding ascii
+refused-is number line = simp append-assoc
+
+pub one-refused : (number line number₁ line₁ : ℕ) → refusedLine number line ≡ refusedLine number₁ line₁ → (number ≡ number₁) × (line ≡ line₁)
+unfolding ascii
+one-refused number line number₁ line₁ e =
+    let x = same-number number number₁ (behindNumber line) (behindNumber line₁) refl refl (ap (drop 8) (sym (refused-is number line) ∙ e ∙ refused-is number₁ line₁)) in
+    let y = same-number line line₁ (10 ∷ []) (10 ∷ []) refl refl (ap (drop 6) (x .1)) in
+    (x .0, y .0)
