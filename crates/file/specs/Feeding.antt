@@ -1,8 +1,7 @@
 -- A file is read piece by piece, with its table lent at each call. After any pieces reader and table stand where reading all of their bytes comes to,
--- wherever the bytes are cut.
--- Of a line that is not ended the reader holds the first bytes, as many as a frame can have and one more, and zeros behind them. A reader and a table
--- that do not belong together are refused with 2: a feed changes neither, and the end answers 2 at line 0 and changes no word. Paper: The file (the
--- program holds one line at a time and takes a file of any length); Record and table; Refusal numbers, 2.
+-- wherever the bytes are cut. Of a line that is not ended the reader holds the first bytes, as many as a frame can have and one more, and zeros behind
+-- them. A reader and a table that do not belong together are refused with 2: a feed changes neither, and the end answers 2 at line 0 and changes no
+-- word. Paper: The file (the program holds one line at a time and takes a file of any length); Record and table; Refusal numbers, 2.
 use Prim.Native.Nat.{ℕ, _+_, _-_, _^_, min}
 use mathlib.Core.Path.{_≡_}
 use mathlib.Core.Bool.{Bool, true, cond, _&&_}

@@ -525,5 +525,7 @@ desk-says =
       lacking-line = lacking-line;
       nothing-line = nothing-line;
       refused-line = refused-line;
+      agreed = agreed;
+      at-zero = at-zero;
       from-one = λ file. from-one file lent;
     }

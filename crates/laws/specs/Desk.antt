@@ -5,13 +5,14 @@
 -- was just read is refused with 19 alone. Paper: The file (the program); Verdict and availability; Refusal numbers.
 use Prim.Native.Nat.{ℕ, _*_, _/_, _^_, _≤_, _<_}
 use mathlib.Core.Path.{_≡_}
+use mathlib.Core.Bool.{true}
 use mathlib.Core.List.{List, [], _∷_, _++_}
 use lib.ListN.{replicate}
 use Rattle.units.specs.Limits.{largestMillis}
 use Rattle.window.specs.Window.{Stretch, windowAt, wholePeriod}
 use Rattle.agreement.specs.declared.Record.{Record}
 use Rattle.agreement.specs.declared.refusal.Refusal.{Refusal}
-use Rattle.agreement.specs.Agreement.{kept}
+use Rattle.agreement.specs.Agreement.{kept, agrees}
 use Rattle.agreement.specs.Numbers.{refusalNumber}
 use Rattle.keeping.specs.declared.Outcome.the-variants as outcome
 use Rattle.timeline.specs.Opening.{zeroRecord}
@@ -142,6 +143,9 @@ pub record DeskSays : Type 0 where
   pub lacking-line : (input : List ℕ) (n m k : ℕ) → ExactlyWhen (answer input ≡ lackingLine n m k) (Lacked input n m k)
   pub nothing-line : (input : List ℕ) → ExactlyWhen (answer input ≡ nothingLine) (Unneeded input)
   pub refused-line : (input : List ℕ) (number line : ℕ) → ExactlyWhen (answer input ≡ refusedLine number line) (Refused input number line)
+  -- what was read agrees, at clock 0: so no verdict on it is refused with 2 or 11, and none with 10, since the clock line is judged first
+  pub agreed : (file : List ℕ) (rec : Record) (ws : List ℕ) → Accepts file rec ws → agrees rec ws ≡ true
+  pub at-zero : (file : List ℕ) (rec : Record) (ws : List ℕ) → Accepts file rec ws → rec .clock .0 ≡ 0
   -- the lines of a file are numbered from 1, so that line 0 is the clock line or the verdict
   pub from-one : (file : List ℕ) (why : Refusal) (line : ℕ) →
       readAnswer file lent ≡ record { outcome = outcome.Refused why; rec = zeroRecord; line = line } → 1 ≤ line
