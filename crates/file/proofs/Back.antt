@@ -34,10 +34,10 @@ use Rattle.frames.proofs.Lines.{no-feed, frame-written-read}
 use Rattle.file.specs.declared.Stage.{Stage}
 use Rattle.file.specs.declared.Stage.the-variants.{Nothing, Headed, Open, Ended}
 use Rattle.file.specs.declared.Reading.{Reading}
-use Rattle.file.specs.Lines.{lineFeed, linesFrom, restFrom}
+use Rattle.file.specs.Lines.{lineFeed, linesFrom, restFrom, Unended}
 use Rattle.file.specs.Judging.{File, taken, refused, settledReading, absent, firstTick, firstNegative, appendedBy, reachesBy, takeS, openedBy, takeFirstS, takeHead, takeEnd, onNothing, onHeaded, onOpen, onFrame, takeLine, takeLines, begun}
 use Rattle.file.specs.Writing.{sFrame, laterFrames, sFrames, bytesOf}
-use Rattle.file.proofs.Cutting.{Unended, line-next, rest-next}
+use Rattle.file.proofs.Cutting.{line-next, rest-next}
 use Rattle.file.proofs.Output.{run-few}
 use Rattle.file.proofs.Again.{recordOf, Takeable, step-accepted, step-record, step-words}
 

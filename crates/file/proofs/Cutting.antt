@@ -11,7 +11,7 @@ use lib.ListN.{length, take, length-take}
 use lib.Seq.{take-all}
 use Rattle.frames.specs.Frames.{frameOf}
 use Rattle.frames.proofs.Lines.{too-long}
-use Rattle.file.specs.Lines.{lineFeed, linesFrom, restFrom, linesOf, restOf}
+use Rattle.file.specs.Lines.{lineFeed, linesFrom, restFrom, linesOf, restOf, Unended, AllUnended, ended, Cut}
 use Rattle.file.specs.Judging.{File, onFrame, takeLine, takeLines, begun, readLines}
 use Rattle.file.specs.Feeding.{longestHeld}
 
@@ -60,11 +60,6 @@ rest-append b (x ∷ xs) ys = go (eqb x lineFeed) (rest-append [] xs ys) (rest-a
     go true e f = e
     go false e f = f
 
--- each line with its feed behind it
-abbrev pub ended : List (List ℕ) → List ℕ
-ended [] = []
-ended (l ∷ ls) = l ++ lineFeed ∷ ended ls
-
 -- lines and rest put together are the bytes
 pub lines-joined : (b xs : List ℕ) → ended (linesFrom b xs) ++ restFrom b xs ≡ b ++ xs
 unfolding linesFrom restFrom
@@ -79,18 +74,9 @@ lines-joined b (x ∷ xs) = go (eqb x lineFeed) refl (lines-joined [] xs) (lines
         ap₂ (λ y l. b ++ y ∷ l) (sym (eqb-true x lineFeed k)) e
     go false k e f = f ∙ append-assoc b (x ∷ []) xs
 
--- a list that holds no feed
-abbrev pub Unended : List ℕ → Type 0
-Unended [] = Unit {0}
-Unended (b ∷ bs) = (b ≡ lineFeed → ⊥) × Unended bs
-
 unended-more : (b : List ℕ) (x : ℕ) → Unended b → (x ≡ lineFeed → ⊥) → Unended (b ++ x ∷ [])
 unended-more [] x u n = (n, tt)
 unended-more (y ∷ ys) x u n = (u .0, unended-more ys x (u .1) n)
-
-abbrev pub AllUnended : List (List ℕ) → Type 0
-AllUnended [] = Unit {0}
-AllUnended (l ∷ ls) = Unended l × AllUnended ls
 
 -- no line holds a feed, and the rest none
 pub lines-unended : (b xs : List ℕ) → Unended b → AllUnended (linesFrom b xs) × Unended (restFrom b xs)
@@ -117,6 +103,31 @@ pub rest-next : (b l xs : List ℕ) → Unended l → restFrom b (l ++ lineFeed 
 unfolding restFrom
 rest-next b [] xs u = refl
 rest-next b (y ∷ ys) xs u = rest-on b y (ys ++ lineFeed ∷ xs) (u .0) ∙ rest-next (b ++ y ∷ []) ys xs (u .1)
+
+-- bytes without a feed end no line
+no-line : (b r : List ℕ) → Unended r → (linesFrom b r ≡ []) × (restFrom b r ≡ b ++ r)
+unfolding linesFrom restFrom
+no-line b [] u = (refl, sym (append-nil b))
+no-line b (y ∷ ys) u =
+    let k = no-line (b ++ y ∷ []) ys (u .1) in (lines-on b y ys (u .0) ∙ k .0, rest-on b y ys (u .0) ∙ k .1 ∙ append-assoc b (y ∷ []) ys)
+
+one-cut : (ls : List (List ℕ)) (r : List ℕ) → AllUnended ls → Unended r → (linesOf (ended ls ++ r) ≡ ls) × (restOf (ended ls ++ r) ≡ r)
+one-cut [] r a u = no-line [] r u
+one-cut (l ∷ ls) r a u =
+    let again = append-assoc l (lineFeed ∷ ended ls) r in
+    let k = one-cut ls r (a .1) u in (
+      ap linesOf again ∙ line-next [] l (ended ls ++ r) (a .0) ∙ ap (λ x. l ∷ x) (k .0),
+      ap restOf again ∙ rest-next [] l (ended ls ++ r) (a .0) ∙ k .1,
+    )
+
+pub cut : Cut
+cut =
+    record {
+      lines = λ bytes. lines-unended [] bytes tt .0;
+      rest = λ bytes. lines-unended [] bytes tt .1;
+      whole = lines-joined [];
+      only = one-cut;
+    }
 
 -- ---- lines taken one after another
 

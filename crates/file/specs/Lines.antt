@@ -1,4 +1,5 @@
--- A file is lines, each ended by a single line feed; what stands after the last feed is a line that is not ended. (The file)
+-- A file is lines, each ended by a single line feed; what stands after the last feed is a line that is not ended. Paper: The file.
+use mathlib.Core.Path.{_≡_}
 use mathlib.Core.Bool.{cond}
 use mathlib.Core.List.{List, [], _∷_, _++_}
 use Prim.Native.Nat.{ℕ}
@@ -22,3 +23,28 @@ linesOf bytes = linesFrom [] bytes
 
 abbrev pub restOf : List ℕ → List ℕ
 restOf bytes = restFrom [] bytes
+
+-- ---- THE THEOREM: there is one way to cut bytes into lines, and this is it. Proved by `cut` of proofs/Cutting.antt
+
+-- bytes without a feed
+abbrev pub Unended : List ℕ → Type 0
+Unended [] = Unit {0}
+Unended (b ∷ bs) = (b ≡ lineFeed → ⊥) × Unended bs
+
+abbrev pub AllUnended : List (List ℕ) → Type 0
+AllUnended [] = Unit {0}
+AllUnended (l ∷ ls) = Unended l × AllUnended ls
+
+-- each line with its feed behind it
+abbrev pub ended : List (List ℕ) → List ℕ
+ended [] = []
+ended (l ∷ ls) = l ++ lineFeed ∷ ended ls
+
+pub record Cut : Type 0 where
+  -- no line has a feed in it, and what stands after the last feed has none
+  pub lines : (bytes : List ℕ) → AllUnended (linesOf bytes)
+  pub rest : (bytes : List ℕ) → Unended (restOf bytes)
+  -- the lines, each with its feed, and then the rest are the bytes
+  pub whole : (bytes : List ℕ) → ended (linesOf bytes) ++ restOf bytes ≡ bytes
+  -- and whatever lines and rest without a feed make the bytes, these are they
+  pub only : (ls : List (List ℕ)) (r : List ℕ) → AllUnended ls → Unended r → (linesOf (ended ls ++ r) ≡ ls) × (restOf (ended ls ++ r) ≡ r)

@@ -7,11 +7,11 @@ use Prim.Native.Nat.{ℕ}
 use Rattle.frames.specs.declared.Frame.{Frame}
 use Rattle.frames.specs.Frames.{isFrame, lineOf, frameOf}
 use Rattle.frames.proofs.Lines.{frame-written-read, line-read-written, read-fits}
-use Rattle.file.specs.Lines.{lineFeed, linesFrom, linesOf, restOf}
+use Rattle.file.specs.Lines.{lineFeed, linesFrom, linesOf, restOf, ended}
 use Rattle.file.specs.Sound.{Narrow}
 use Rattle.file.specs.Writing.{bytesOf}
 use Rattle.file.proofs.Back.{unended-line, ended-before}
-use Rattle.file.proofs.Cutting.{line-next, ended, lines-joined}
+use Rattle.file.proofs.Cutting.{line-next, lines-joined}
 use Rattle.file.proofs.Places.{narrow}
 use Rattle.laws.specs.Reading.{AllFit}
 
