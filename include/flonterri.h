@@ -14,6 +14,8 @@
  * duration, window depth and clock are whole milliseconds, at most 100,000,000,000. A duration of 0
  * means that the period end is unknown, a depth of 0 that no window depth is given. A grain is
  * 1/(1000 x timescale) second.
+ *
+ * flonterri_timeline.h has the same calls over one struct, without the lengths that never change.
  */
 #ifndef FLONTERRI_H
 #define FLONTERRI_H
@@ -52,17 +54,49 @@ enum flonterri_record_word {
     FLONTERRI_RUNS_USED = 10
 };
 
-/* The first word of a verdict. */
+/* Where each word of a run stands, counted from its first. */
+enum flonterri_run_word {
+    FLONTERRI_RUN_START = 0,
+    FLONTERRI_RUN_DURATION = 1,
+    FLONTERRI_RUN_COUNT = 2
+};
+
+/* Where each word of a verdict stands in out: the kind, how many ticks are needed, how many of them are
+ * covered, the lowest that is not, and covered x 100 / needed rounded down. */
+enum flonterri_verdict_word {
+    FLONTERRI_VERDICT_KIND = 0,
+    FLONTERRI_VERDICT_NEEDED = 1,
+    FLONTERRI_VERDICT_COVERED = 2,
+    FLONTERRI_VERDICT_LOWEST = 3,
+    FLONTERRI_VERDICT_PERCENT = 4
+};
+
+/* The kinds of a verdict. */
 enum flonterri_verdict_kind {
     FLONTERRI_NOTHING_NEEDED = 0,
     FLONTERRI_COMPLETE = 1,
     FLONTERRI_LACKING = 2
 };
 
-/* The first word of an availability. */
+/* Where each word of an availability stands in out: the kind, from which grain on, and up to which, that
+ * one excluded. */
+enum flonterri_availability_word {
+    FLONTERRI_AVAILABILITY_KIND = 0,
+    FLONTERRI_AVAILABILITY_START = 1,
+    FLONTERRI_AVAILABILITY_END = 2
+};
+
+/* The kinds of an availability. */
 enum flonterri_availability_kind {
     FLONTERRI_NEVER_ENDS = 0,
     FLONTERRI_ENDS = 1
+};
+
+/* Where each word stands in out that tells the runs which touch a span: the place in the table of their
+ * first word, and the place past their last. */
+enum flonterri_touching_word {
+    FLONTERRI_TOUCHING_FROM = 0,
+    FLONTERRI_TOUCHING_TO = 1
 };
 
 /* What a function answers. Where several numbers apply to a call, it answers the lowest; a file's
@@ -114,10 +148,9 @@ uint32_t flonterri_append_stamp(uint64_t *record, size_t record_words, uint64_t 
  * Refusals 2, 10. Changes record and table; refused it changes nothing. */
 uint32_t flonterri_trim(uint64_t *record, size_t record_words, uint64_t *table, size_t table_words, uint64_t clock);
 
-/* The verdict at a clock. out has 5 words: the kind, then how many ticks are needed, how many of them are
- * covered, the lowest that is not, and covered x 100 / needed rounded down. What does not apply is 0; where
- * the kind is complete, covered is needed and percent is 100. Refusals 2, 10, 11, and 15 for out. Changes
- * out alone; refused it changes nothing. */
+/* The verdict at a clock. out has 5 words, as flonterri_verdict_word names them. What does not apply is 0;
+ * where the kind is complete, covered is needed and percent is 100. Refusals 2, 10, 11, and 15 for out.
+ * Changes out alone; refused it changes nothing. */
 uint32_t flonterri_verdict(const uint64_t *record, size_t record_words, const uint64_t *table, size_t table_words,
                            uint64_t clock, uint64_t *out, size_t out_words);
 
@@ -126,15 +159,15 @@ uint32_t flonterri_verdict(const uint64_t *record, size_t record_words, const ui
 uint32_t flonterri_verdict_whole(const uint64_t *record, size_t record_words, const uint64_t *table,
                                  size_t table_words, uint64_t *out, size_t out_words);
 
-/* When the kept reference of a number is available. out has 3 words: the kind, from which grain on, and up to
- * which, that one excluded (0 where it never ends), in signed grains from availabilityStartTime. Refusals 2,
- * 13, and 15 for out. Changes out alone; refused it changes nothing. */
+/* When the kept reference of a number is available. out has 3 words, as flonterri_availability_word names
+ * them, in signed grains from availabilityStartTime; where it never ends, the end is 0. Refusals 2, 13, and 15
+ * for out; a number over 2^32 - 1 is never kept, and so is 13. Changes out alone; refused it changes nothing. */
 uint32_t flonterri_availability(const uint64_t *record, size_t record_words, const uint64_t *table,
-                                size_t table_words, uint32_t number, int64_t *out, size_t out_words);
+                                size_t table_words, uint64_t number, int64_t *out, size_t out_words);
 
-/* The runs that touch the ticks from a up to b, b excluded. out has 2 words: the place in the table of their
- * first word, and the place past their last; both 0 if no run touches. Refusals 2, 14, and 15 for out. Changes
- * out alone; refused it changes nothing. */
+/* The runs that touch the ticks from a up to b, b excluded. out has 2 words, as flonterri_touching_word names
+ * them; both are 0 if no run touches. Refusals 2, 14, and 15 for out. Changes out alone; refused it changes
+ * nothing. */
 uint32_t flonterri_touching(const uint64_t *record, size_t record_words, const uint64_t *table, size_t table_words,
                             uint64_t a, uint64_t b, uint64_t *out, size_t out_words);
 

@@ -132,12 +132,12 @@ pub extern "C" fn flonterri_verdict_whole(record: &[u64], table: &[u64], out: &m
     tell_verdict(out, verdict)
 }
 
-// When the reference of a number is available.
+// When the reference of a number is available. A number is kept or it is not, whatever its size.
 #[no_mangle]
 pub extern "C" fn flonterri_availability(
     record: &[u64],
     table: &[u64],
-    number: u32,
+    number: u64,
     out: &mut [i64],
 ) -> u32
     ensures { λ r. ⌜ r ≡ tellsAvailability (now («record» .entry)) (now (table .entry)) number (now (out .entry)) .number ⌝ }
@@ -147,7 +147,7 @@ pub extern "C" fn flonterri_availability(
     if wrong != 0 {
         return wrong;
     }
-    let availability = times::availability(record_of(record), table, Number(number as u64));
+    let availability = times::availability(record_of(record), table, Number(number));
     tell_availability(out, availability)
 }
 

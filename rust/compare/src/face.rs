@@ -18,7 +18,7 @@ pub type Verdict = fn(&[u64], &[u64], u64, &mut [u64]) -> u32;
 /// A verdict of the whole period.
 pub type VerdictWhole = fn(&[u64], &[u64], &mut [u64]) -> u32;
 /// The availability of a number.
-pub type Availability = fn(&[u64], &[u64], u32, &mut [i64]) -> u32;
+pub type Availability = fn(&[u64], &[u64], u64, &mut [i64]) -> u32;
 /// The runs that touch a span.
 pub type Touching = fn(&[u64], &[u64], u64, u64, &mut [u64]) -> u32;
 /// A reading.

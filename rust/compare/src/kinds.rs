@@ -14,6 +14,7 @@
 
 use flonterri::words::RUN_WORDS;
 
+use crate::limits;
 use crate::sequence::Made;
 use crate::state::State;
 use crate::step::{Call, Step};
@@ -87,7 +88,7 @@ const TAKEN: &[&str] = &[
 ];
 
 /// The ways in which calls can go besides their numbers.
-const WAYS: [(&str, &[&str]); 12] = [
+const WAYS: [(&str, &[&str]); 13] = [
     ("lengths", &["another record", "another out"]),
     ("damaged words", &["agree", "disagree"]),
     ("append taken", TAKEN),
@@ -106,6 +107,7 @@ const WAYS: [(&str, &[&str]); 12] = [
     ("verdict kind", &["nothing needed", "complete", "lacking"]),
     ("verdict_whole kind", &["complete", "lacking"]),
     ("availability kind", &["never ends", "ends"]),
+    ("availability number", &["within 32 bits", "over 32 bits"]),
     (
         "touching part",
         &["no run", "one of several runs", "some runs", "all runs"],
@@ -156,6 +158,15 @@ pub fn meet_call(tally: &mut Tally, made: &Made) {
     let number = made.answer.number;
     tally.meet(step.call.name(), &number.to_string());
     meet_memory(tally, step, number);
+    if let Call::Availability { number: asked } = step.call {
+        let over = asked > limits::NUMBER;
+        let size = if over {
+            "over 32 bits"
+        } else {
+            "within 32 bits"
+        };
+        tally.meet("availability number", size);
+    }
     if number == 0 {
         meet_accepted(tally, made);
     } else if let (Call::Read { bytes }, false) =

@@ -28,7 +28,7 @@ pub enum Call {
     },
     VerdictWhole,
     Availability {
-        number: u32,
+        number: u64,
     },
     Touching {
         a: u64,

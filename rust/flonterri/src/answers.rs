@@ -4,8 +4,9 @@ use std::fmt;
 use std::iter::FusedIterator;
 use std::slice::ChunksExact;
 
-use crate::units::{Grain, Span, Tick};
-use crate::words::RUN_WORDS;
+use crate::units::{narrow, Grain, Span, Tick};
+use crate::words::{availability_kind, availability_word, run_word, verdict_kind, verdict_word};
+use crate::words::{AVAILABILITY_WORDS, RUN_WORDS, VERDICT_WORDS};
 
 /// Whether the kept references cover what a window needs. Shown as the program `desk` writes it.
 #[derive(Clone, Copy, Debug, PartialEq, Eq, Hash)]
@@ -45,16 +46,17 @@ impl Verdict {
         }
     }
 
-    /// The verdict in the words of the archive: kind, needed, covered, lowest, percent.
-    pub(crate) fn of_words([kind, needed, covered, lowest, percent]: [u64; 5]) -> Verdict {
-        match kind {
-            0 => Verdict::NothingNeeded,
-            1 => Verdict::Complete { needed },
+    /// The verdict in the words of the archive.
+    pub(crate) fn of_words(words: [u64; VERDICT_WORDS]) -> Verdict {
+        let needed = words[verdict_word::NEEDED];
+        match words[verdict_word::KIND] {
+            verdict_kind::NOTHING_NEEDED => Verdict::NothingNeeded,
+            verdict_kind::COMPLETE => Verdict::Complete { needed },
             _ => Verdict::Lacking {
                 needed,
-                covered,
-                lowest: Tick(lowest),
-                percent,
+                covered: words[verdict_word::COVERED],
+                lowest: Tick(words[verdict_word::LOWEST]),
+                percent: words[verdict_word::PERCENT],
             },
         }
     }
@@ -89,13 +91,13 @@ pub struct Availability {
 }
 
 impl Availability {
-    /// The availability in the words of the archive: kind, start, end.
-    pub(crate) fn of_words([kind, start, end]: [i64; 3]) -> Availability {
+    /// The availability in the words of the archive.
+    pub(crate) fn of_words(words: [i64; AVAILABILITY_WORDS]) -> Availability {
         Availability {
-            start: Grain(start),
-            end: match kind {
-                0 => None,
-                _ => Some(Grain(end)),
+            start: Grain(words[availability_word::START]),
+            end: match words[availability_word::KIND] {
+                availability_kind::NEVER_ENDS => None,
+                _ => Some(Grain(words[availability_word::END])),
             },
         }
     }
@@ -117,6 +119,7 @@ pub struct Run {
 pub struct Runs<'table>(ChunksExact<'table, u64>);
 
 impl<'table> Runs<'table> {
+    /// The runs in a part of a timeline's table.
     pub(crate) fn of_words(part: &'table [u64]) -> Self {
         Runs(part.chunks_exact(RUN_WORDS))
     }
@@ -127,10 +130,9 @@ impl Iterator for Runs<'_> {
 
     fn next(&mut self) -> Option<Run> {
         self.0.next().map(|words| Run {
-            start: Tick(words[0]),
-            // The words of an agreeing table fit: a duration is below 2^32.
-            duration: Span(words[1] as u32),
-            count: words[2],
+            start: Tick(words[run_word::START]),
+            duration: Span(narrow(words[run_word::DURATION], u32::MAX)),
+            count: words[run_word::COUNT],
         })
     }
 

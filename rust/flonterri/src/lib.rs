@@ -7,9 +7,9 @@
 //! memory, gives the numbers types, and turns refusal numbers into [`Refusal`].
 //!
 //! ```
-//! use flonterri::{Head, Millis, Refusal, Span, Tick, Timeline, Timescale, Verdict};
+//! use flonterri::{Head, Millis, Span, Tick, Timeline, Timescale, Verdict};
 //!
-//! # fn main() -> Result<(), Refusal> {
+//! # fn main() -> Result<(), flonterri::OpenError> {
 //! // A thousand ticks a second, and a rewind window of ten seconds.
 //! let head = Head {
 //!     depth: Millis(10_000),
@@ -32,7 +32,7 @@
 //!
 //! ```
 //! # use flonterri::{Head, Refusal, Span, Tick, Timeline, Timescale};
-//! # fn main() -> Result<(), Refusal> {
+//! # fn main() -> Result<(), flonterri::OpenError> {
 //! let mut timeline = Timeline::open(Head::new(Timescale(1000)), Tick(0), 100)?;
 //! timeline.append(Tick(0), Span(4000), 5)?;
 //! let before = timeline.clone();
@@ -41,6 +41,10 @@
 //! # Ok(())
 //! # }
 //! ```
+//!
+//! Every timeline agrees: its record and table are words that opening, reading or a change left,
+//! or that [`Timeline::of_words`] has tested. Words that may be anything are for the calls of
+//! [`words`].
 //!
 //! The archive is `libflonterri.a`, for x86-64; `rt staticlib flonterri` writes it. Set
 //! `FLONTERRI_LIB_DIR` where it does not lie in `target/staticlib` of the repository.
@@ -56,6 +60,6 @@ mod units;
 pub mod words;
 
 pub use answers::{Availability, Run, Runs, Verdict};
-pub use refusal::{Refusal, RefusedFile};
+pub use refusal::{OpenError, ReadError, Refusal, RefusedFile};
 pub use timeline::{Head, Timeline};
 pub use units::{Grain, Millis, Number, Span, Stamp, Tick, Timescale};

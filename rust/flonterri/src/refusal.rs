@@ -1,4 +1,4 @@
-//! Why a call is refused.
+//! Why a call is refused, and what else can stand in the way of a timeline.
 
 use std::error::Error;
 use std::fmt;
@@ -17,7 +17,8 @@ use std::fmt;
 pub enum Refusal {
     /// 1: a head field or the first tick is over its limit, or the timescale is 0.
     OverLimit = 1,
-    /// 2: record and table disagree.
+    /// 2: record and table disagree. Every [`Timeline`](crate::Timeline) agrees, so of its calls
+    /// [`of_words`](crate::Timeline::of_words) alone answers this.
     Disagreement = 2,
     /// 3: a duration or a count of 0.
     NothingGiven = 3,
@@ -141,10 +142,10 @@ impl Error for Refusal {}
 /// A file that is refused: why, and at which line.
 ///
 /// ```
-/// use flonterri::{Refusal, Timeline};
+/// use flonterri::{Refusal, RefusedFile};
 ///
-/// let refused = Timeline::read(b"not a file\n", 10).unwrap_err();
-/// assert_eq!((refused.refusal, refused.line), (Refusal::BadLine, 1));
+/// let refused = RefusedFile { refusal: Refusal::Gap, line: 3 };
+/// assert_eq!(refused.to_string(), "line 3: refusal 4: the start lies after the next tick");
 /// ```
 #[derive(Clone, Copy, Debug, PartialEq, Eq, PartialOrd, Ord, Hash)]
 pub struct RefusedFile {
@@ -164,5 +165,70 @@ impl fmt::Display for RefusedFile {
 impl Error for RefusedFile {
     fn source(&self) -> Option<&(dyn Error + 'static)> {
         Some(&self.refusal)
+    }
+}
+
+/// Why a timeline was not opened: refused, or no memory.
+///
+/// A [`Refusal`] becomes one, so that `?` serves for an opening and for the calls after it:
+///
+/// ```
+/// use flonterri::{Head, OpenError, Refusal, Span, Tick, Timeline, Timescale};
+///
+/// fn opened(first: Tick, runs: usize) -> Result<Timeline, OpenError> {
+///     let mut timeline = Timeline::open(Head::new(Timescale(1000)), first, runs)?;
+///     timeline.append(first, Span(4000), 5)?;
+///     Ok(timeline)
+/// }
+/// assert!(opened(Tick(0), 100).is_ok());
+/// assert_eq!(opened(Tick(1 << 52), 100), Err(OpenError::Refused(Refusal::OverLimit)));
+/// let runs = usize::MAX;
+/// assert_eq!(opened(Tick(0), runs), Err(OpenError::NoMemory { runs }));
+/// ```
+#[derive(Clone, Copy, Debug, PartialEq, Eq, PartialOrd, Ord, Hash)]
+pub enum OpenError<Why = Refusal> {
+    /// What was given is refused.
+    Refused(Why),
+    /// There is no memory for a table of so many runs.
+    NoMemory {
+        /// How many were asked for.
+        runs: usize,
+    },
+}
+
+/// Why a file was not read: refused at a line, or no memory.
+///
+/// ```
+/// use flonterri::{ReadError, Refusal, RefusedFile, Timeline};
+///
+/// let refused = RefusedFile { refusal: Refusal::BadLine, line: 1 };
+/// assert_eq!(Timeline::read(b"not a file\n", 10), Err(ReadError::Refused(refused)));
+/// ```
+pub type ReadError = OpenError<RefusedFile>;
+
+impl<Why> From<Why> for OpenError<Why> {
+    fn from(why: Why) -> Self {
+        OpenError::Refused(why)
+    }
+}
+
+impl<Why: fmt::Display> fmt::Display for OpenError<Why> {
+    fn fmt(&self, formatter: &mut fmt::Formatter<'_>) -> fmt::Result {
+        match self {
+            OpenError::Refused(why) => why.fmt(formatter),
+            OpenError::NoMemory { runs } => {
+                write!(formatter, "no memory for a table of {} runs", runs)
+            }
+        }
+    }
+}
+
+impl<Why: Error> Error for OpenError<Why> {
+    fn source(&self) -> Option<&(dyn Error + 'static)> {
+        match self {
+            // It is shown as the refusal itself, so its source is the refusal's.
+            OpenError::Refused(why) => why.source(),
+            OpenError::NoMemory { .. } => None,
+        }
     }
 }

@@ -3,9 +3,9 @@
 use std::ops::Range;
 
 use crate::answers::{Availability, Runs, Verdict};
-use crate::refusal::{Refusal, RefusedFile};
-use crate::units::{Millis, Number, Span, Stamp, Tick, Timescale};
-use crate::words::{self, word, RECORD_WORDS, RUN_WORDS};
+use crate::refusal::{OpenError, ReadError, Refusal, RefusedFile};
+use crate::units::{narrow, Millis, Number, Span, Stamp, Tick, Timescale};
+use crate::words::{self, touching_word, word, RECORD_WORDS, RUN_WORDS};
 
 /// Bytes of a written head line and end line, with their line feeds.
 const HEAD_AND_END_BYTES: usize = 83 + 11;
@@ -58,10 +58,13 @@ impl Head {
 
 /// The segment references of one representation in one period.
 ///
-/// ```
-/// use flonterri::{Head, Millis, Number, Refusal, Span, Tick, Timeline, Timescale, Verdict};
+/// Its record and table agree, whichever way it came: no call of it is refused for
+/// [`Disagreement`](Refusal::Disagreement), and what its words hold is within the limits.
 ///
-/// # fn main() -> Result<(), Refusal> {
+/// ```
+/// use flonterri::{Head, Millis, Number, Span, Tick, Timeline, Timescale, Verdict};
+///
+/// # fn main() -> Result<(), flonterri::OpenError> {
 /// let head = Head {
 ///     depth: Millis(10_000),
 ///     first_number: Number(1),
@@ -90,12 +93,13 @@ pub struct Timeline {
 impl Timeline {
     /// Opens a timeline with room for so many runs. References of one duration that follow each
     /// other share a run, so a few runs hold a long timeline. Refusal
-    /// [`OverLimit`](Refusal::OverLimit).
-    pub fn open(head: Head, first_tick: Tick, runs: usize) -> Result<Timeline, Refusal> {
-        let mut timeline = Timeline::empty(runs);
+    /// [`OverLimit`](Refusal::OverLimit), or [`NoMemory`](OpenError::NoMemory) for so many runs.
+    pub fn open(head: Head, first_tick: Tick, runs: usize) -> Result<Timeline, OpenError> {
+        let mut record = [0; RECORD_WORDS];
+        let mut table = table_of(runs)?;
         Refusal::judge(words::open(
-            &mut timeline.record,
-            &mut timeline.table,
+            &mut record,
+            &mut table,
             head.timescale.0,
             head.offset.0,
             head.start.0,
@@ -104,15 +108,7 @@ impl Timeline {
             head.first_number.0,
             first_tick.0,
         ))?;
-        Ok(timeline)
-    }
-
-    /// Memory for so many runs, all of it 0.
-    fn empty(runs: usize) -> Timeline {
-        Timeline {
-            record: [0; RECORD_WORDS],
-            table: vec![0; runs * RUN_WORDS],
-        }
+        Ok(Timeline { record, table })
     }
 
     /// Appends so many references of one duration that start at a full tick.
@@ -125,7 +121,7 @@ impl Timeline {
     ///
     /// ```
     /// # use flonterri::{Head, Refusal, Span, Tick, Timeline, Timescale};
-    /// # fn main() -> Result<(), Refusal> {
+    /// # fn main() -> Result<(), flonterri::OpenError> {
     /// let mut timeline = Timeline::open(Head::new(Timescale(10)), Tick(111), 10)?;
     /// timeline.append(Tick(111), Span(40), 1)?;
     /// timeline.append(Tick(151), Span(10), 1)?;
@@ -149,7 +145,7 @@ impl Timeline {
     ///
     /// ```
     /// # use flonterri::{Head, Refusal, Span, Stamp, Tick, Timeline, Timescale};
-    /// # fn main() -> Result<(), Refusal> {
+    /// # fn main() -> Result<(), flonterri::OpenError> {
     /// let past_32_bits = Tick(4_294_970_000);
     /// let mut timeline = Timeline::open(Head::new(Timescale(1000)), past_32_bits, 10)?;
     /// assert_eq!(timeline.append_stamp(Stamp(2703), Span(1), 1), Err(Refusal::Overlap));
@@ -186,7 +182,7 @@ impl Timeline {
     /// The verdict at a clock. Refusals [`ClockLimit`](Refusal::ClockLimit),
     /// [`EarlierClock`](Refusal::EarlierClock).
     pub fn verdict(&self, clock: Millis) -> Result<Verdict, Refusal> {
-        let mut out = [0; 5];
+        let mut out = [0; words::VERDICT_WORDS];
         let number = words::verdict(&self.record, &self.table, clock.0, &mut out);
         Refusal::judge(number).map(|()| Verdict::of_words(out))
     }
@@ -195,8 +191,8 @@ impl Timeline {
     /// [`EndUnknown`](Refusal::EndUnknown).
     ///
     /// ```
-    /// # use flonterri::{Head, Millis, Refusal, Span, Tick, Timeline, Timescale};
-    /// # fn main() -> Result<(), Refusal> {
+    /// # use flonterri::{Head, Millis, Span, Tick, Timeline, Timescale};
+    /// # fn main() -> Result<(), flonterri::OpenError> {
     /// let head = Head {
     ///     duration: Millis(500),
     ///     ..Head::new(Timescale(3))
@@ -208,7 +204,7 @@ impl Timeline {
     /// # }
     /// ```
     pub fn verdict_whole(&self) -> Result<Verdict, Refusal> {
-        let mut out = [0; 5];
+        let mut out = [0; words::VERDICT_WORDS];
         let number = words::verdict_whole(&self.record, &self.table, &mut out);
         Refusal::judge(number).map(|()| Verdict::of_words(out))
     }
@@ -216,8 +212,8 @@ impl Timeline {
     /// When the reference of a number is available. Refusal [`NotKept`](Refusal::NotKept).
     ///
     /// ```
-    /// # use flonterri::{Grain, Head, Number, Refusal, Span, Tick, Timeline, Timescale};
-    /// # fn main() -> Result<(), Refusal> {
+    /// # use flonterri::{Grain, Head, Number, Span, Tick, Timeline, Timescale};
+    /// # fn main() -> Result<(), flonterri::OpenError> {
     /// let mut timeline = Timeline::open(Head::new(Timescale(1000)), Tick(0), 10)?;
     /// timeline.append(Tick(0), Span(4000), 2)?;
     /// let available = timeline.availability(Number(1))?;
@@ -226,8 +222,8 @@ impl Timeline {
     /// # }
     /// ```
     pub fn availability(&self, number: Number) -> Result<Availability, Refusal> {
-        let mut out = [0; 3];
-        let answer = words::availability(&self.record, &self.table, number.0, &mut out);
+        let mut out = [0; words::AVAILABILITY_WORDS];
+        let answer = words::availability(&self.record, &self.table, number.0.into(), &mut out);
         Refusal::judge(answer).map(|()| Availability::of_words(out))
     }
 
@@ -235,8 +231,8 @@ impl Timeline {
     /// copy. Refusal [`EmptySpan`](Refusal::EmptySpan).
     ///
     /// ```
-    /// # use flonterri::{Head, Refusal, Run, Span, Tick, Timeline, Timescale};
-    /// # fn main() -> Result<(), Refusal> {
+    /// # use flonterri::{Head, Run, Span, Tick, Timeline, Timescale};
+    /// # fn main() -> Result<(), flonterri::OpenError> {
     /// let mut timeline = Timeline::open(Head::new(Timescale(1000)), Tick(0), 10)?;
     /// timeline.append(Tick(0), Span(40), 5)?;
     /// timeline.append(Tick(200), Span(10), 1)?;
@@ -247,7 +243,7 @@ impl Timeline {
     /// # }
     /// ```
     pub fn touching(&self, ticks: Range<Tick>) -> Result<Runs<'_>, Refusal> {
-        let mut out = [0; 2];
+        let mut out = [0; words::TOUCHING_WORDS];
         let number = words::touching(
             &self.record,
             &self.table,
@@ -256,20 +252,21 @@ impl Timeline {
             &mut out,
         );
         Refusal::judge(number)?;
-        Ok(Runs::of_words(
-            &self.table[out[0] as usize..out[1] as usize],
-        ))
+        let place = |at: usize| narrow(out[at], usize::MAX);
+        let part = place(touching_word::FROM)..place(touching_word::TO);
+        Ok(Runs::of_words(self.table.get(part).unwrap_or_default()))
     }
 }
 
 /// Files.
 impl Timeline {
-    /// Reads a file into a timeline with room for so many runs.
+    /// Reads a file into a timeline with room for so many runs. Refused with the first refused
+    /// line, or [`NoMemory`](OpenError::NoMemory) for so many runs.
     ///
     /// ```
-    /// use flonterri::{Number, RefusedFile, Tick, Timeline};
+    /// use flonterri::{Number, Tick, Timeline};
     ///
-    /// # fn main() -> Result<(), RefusedFile> {
+    /// # fn main() -> Result<(), flonterri::ReadError> {
     /// let file = b"\
     /// 01000003e8000000000000000000000000000000000000000000000000000000000000271000000003
     /// 020000000000001f4000000fa000000002
@@ -282,25 +279,19 @@ impl Timeline {
     /// # Ok(())
     /// # }
     /// ```
-    pub fn read(file: &[u8], runs: usize) -> Result<Timeline, RefusedFile> {
-        let mut timeline = Timeline::empty(runs);
-        let mut out = [0];
-        let number = words::read(file, &mut timeline.record, &mut timeline.table, &mut out);
-        match Refusal::judge(number) {
-            Ok(()) => Ok(timeline),
-            Err(refusal) => Err(RefusedFile {
-                refusal,
-                line: out[0],
-            }),
-        }
+    pub fn read(file: &[u8], runs: usize) -> Result<Timeline, ReadError> {
+        let mut record = [0; RECORD_WORDS];
+        let mut table = table_of(runs)?;
+        let mut out = [0; words::READ_WORDS];
+        let number = words::read(file, &mut record, &mut table, &mut out);
+        let [line] = out;
+        Refusal::judge(number).map_err(|refusal| RefusedFile { refusal, line })?;
+        Ok(Timeline { record, table })
     }
 
     /// The file of what is kept. Refusal [`NothingKept`](Refusal::NothingKept).
     pub fn write(&self) -> Result<Vec<u8>, Refusal> {
-        // A record that came by `of_words` may claim any number of runs; it is refused for that,
-        // and no memory is asked for it.
-        let runs = self.runs_used().min(self.capacity());
-        let mut file = vec![0; HEAD_AND_END_BYTES + S_BYTES * runs];
+        let mut file = vec![0; HEAD_AND_END_BYTES + S_BYTES * self.runs().len()];
         let length = self.write_into(&mut file)?;
         file.truncate(length);
         Ok(file)
@@ -310,9 +301,10 @@ impl Timeline {
     /// lies behind stays as it came. Refusals [`NothingKept`](Refusal::NothingKept),
     /// [`ShortOutput`](Refusal::ShortOutput).
     pub fn write_into(&self, output: &mut [u8]) -> Result<usize, Refusal> {
-        let mut out = [0];
+        let mut out = [0; words::WRITE_WORDS];
         Refusal::judge(words::write(&self.record, &self.table, output, &mut out))?;
-        Ok(out[0] as usize)
+        let [length] = out;
+        Ok(narrow(length, usize::MAX))
     }
 }
 
@@ -321,12 +313,12 @@ impl Timeline {
     /// The head.
     pub fn head(&self) -> Head {
         Head {
-            timescale: Timescale(self.record[word::TIMESCALE] as u32),
+            timescale: Timescale(narrow(self.record[word::TIMESCALE], u32::MAX)),
             offset: Tick(self.record[word::OFFSET]),
             start: Millis(self.record[word::START]),
             duration: Millis(self.record[word::DURATION]),
             depth: Millis(self.record[word::DEPTH]),
-            first_number: Number(self.record[word::FIRST_NUMBER] as u32),
+            first_number: Number(narrow(self.record[word::FIRST_NUMBER], u32::MAX)),
         }
     }
 
@@ -353,12 +345,13 @@ impl Timeline {
     /// The number of the first kept reference: first number plus dropped. With nothing kept it is
     /// that of the next reference.
     pub fn first_kept_number(&self) -> Number {
-        Number((self.record[word::FIRST_NUMBER] as u32).wrapping_add(self.dropped() as u32))
+        let number = self.record[word::FIRST_NUMBER].saturating_add(self.dropped());
+        Number(narrow(number, u32::MAX))
     }
 
     /// How many runs are used.
     pub fn runs_used(&self) -> usize {
-        self.record[word::RUNS_USED] as usize
+        narrow(self.record[word::RUNS_USED], usize::MAX)
     }
 
     /// How many runs there is room for.
@@ -368,17 +361,37 @@ impl Timeline {
 
     /// Every used run, oldest first.
     pub fn runs(&self) -> Runs<'_> {
-        let used = self.runs_used().min(self.capacity());
-        Runs::of_words(&self.table[..used * RUN_WORDS])
+        let used = self.runs_used().saturating_mul(RUN_WORDS);
+        Runs::of_words(self.table.get(..used).unwrap_or_default())
     }
 }
 
 /// Memory kept elsewhere.
 impl Timeline {
     /// A timeline of words that were kept elsewhere. They may be anything: where they are no
-    /// timeline, every call refuses with [`Disagreement`](Refusal::Disagreement).
-    pub fn of_words(record: [u64; RECORD_WORDS], table: Vec<u64>) -> Timeline {
-        Timeline { record, table }
+    /// timeline, they are refused. Refusal [`Disagreement`](Refusal::Disagreement).
+    ///
+    /// Who wants to look into words that are no timeline keeps them: [`words::agree`] tests them
+    /// where they lie, and the calls of [`words`] take them as they are.
+    ///
+    /// ```
+    /// # use flonterri::{Head, Refusal, Span, Tick, Timeline, Timescale};
+    /// # fn main() -> Result<(), flonterri::OpenError> {
+    /// let mut timeline = Timeline::open(Head::new(Timescale(1000)), Tick(0), 10)?;
+    /// timeline.append(Tick(0), Span(4000), 5)?;
+    /// let (mut record, table) = (*timeline.record_words(), timeline.table_words().to_vec());
+    /// assert_eq!(Timeline::of_words(record, table.clone())?, timeline);
+    /// record[flonterri::words::word::NEXT_TICK] += 1;
+    /// assert_eq!(Timeline::of_words(record, table), Err(Refusal::Disagreement));
+    /// # Ok(())
+    /// # }
+    /// ```
+    pub fn of_words(record: [u64; RECORD_WORDS], table: Vec<u64>) -> Result<Timeline, Refusal> {
+        if words::agree(&record, &table) {
+            Ok(Timeline { record, table })
+        } else {
+            Err(Refusal::Disagreement)
+        }
     }
 
     /// The words of the record.
@@ -390,4 +403,15 @@ impl Timeline {
     pub fn table_words(&self) -> &[u64] {
         &self.table
     }
+}
+
+/// A table of so many runs, all of it 0. A number of runs that no memory holds is an error, not a
+/// smaller table and not the end of the program.
+fn table_of<Why>(runs: usize) -> Result<Vec<u64>, OpenError<Why>> {
+    let no_memory = || OpenError::NoMemory { runs };
+    let words = runs.checked_mul(RUN_WORDS).ok_or_else(no_memory)?;
+    let mut table = Vec::new();
+    table.try_reserve_exact(words).map_err(|_| no_memory())?;
+    table.resize(words, 0);
+    Ok(table)
 }

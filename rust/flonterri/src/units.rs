@@ -49,6 +49,13 @@ pub struct Number(pub u32);
 #[derive(Clone, Copy, Debug, Default, PartialEq, Eq, PartialOrd, Ord, Hash)]
 pub struct Grain(pub i64);
 
+/// A word of a timeline in a type that is narrower. Every timeline agrees, and agreement keeps each
+/// word that is asked for so within the type, so the widest is never answered for a wider word; it
+/// stands there because this crate neither panics nor cuts bits off.
+pub(crate) fn narrow<T: TryFrom<u64>>(word: u64, widest: T) -> T {
+    T::try_from(word).unwrap_or(widest)
+}
+
 /// Each unit is shown as its number.
 macro_rules! shown_as_its_number {
     ($($unit:ident)*) => {

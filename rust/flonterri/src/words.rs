@@ -1,22 +1,38 @@
 //! The calls as the archive has them, over lent words and bytes, each safe to call.
 //!
 //! Most programs want [`Timeline`](crate::Timeline), which owns its memory. These calls are for
-//! memory that is kept elsewhere, in a file or shared with another process.
+//! memory that is kept elsewhere, in a file or shared with another process, and for words that may
+//! not be a timeline.
 //!
 //! Each answers the refusal number, 0 where accepted. A record is [`RECORD_WORDS`] words, in the
-//! order that [`word`] tells. A table has [`RUN_WORDS`] words for each run: start, duration, count.
-//! Words of any value and slices of any length are taken: what cannot be a timeline is refused.
+//! order that [`word`] tells. A table has [`RUN_WORDS`] words for each run, in the order that
+//! [`run_word`] tells. Words of any value and slices of any length are taken: what cannot be a
+//! timeline is refused.
 //!
-//! A record that is not of 11 words is 2; then an `out` that is not of its length is 15; both
-//! leave all memory as it came. A refusal leaves `out` as it came, but for the line of a refused
-//! reading. A refused opening zeroes the record, a refused reading zeroes record and table; every
-//! other refused call changes nothing.
+//! Before all else a record that is not of 11 words is 2, and then an `out` that is not of its
+//! length is 15; both leave all memory as it came. What a call changes where it is refused with
+//! another number stands beside it.
 
 /// Words of a record.
 pub const RECORD_WORDS: usize = 11;
 
 /// Words of a run in the table.
 pub const RUN_WORDS: usize = 3;
+
+/// Words of the `out` of [`verdict`] and [`verdict_whole`].
+pub const VERDICT_WORDS: usize = 5;
+
+/// Words of the `out` of [`availability`].
+pub const AVAILABILITY_WORDS: usize = 3;
+
+/// Words of the `out` of [`touching`].
+pub const TOUCHING_WORDS: usize = 2;
+
+/// Words of the `out` of [`read`]: the refused line.
+pub const READ_WORDS: usize = 1;
+
+/// Words of the `out` of [`write`]: the length.
+pub const WRITE_WORDS: usize = 1;
 
 /// Where each word of a record stands.
 pub mod word {
@@ -42,6 +58,66 @@ pub mod word {
     pub const GREATEST_CLOCK: usize = 9;
     /// How many runs of the table are used.
     pub const RUNS_USED: usize = 10;
+}
+
+/// Where each word of a run stands, counted from its first.
+pub mod run_word {
+    /// Where the first reference starts, in ticks.
+    pub const START: usize = 0;
+    /// How many ticks each reference lasts.
+    pub const DURATION: usize = 1;
+    /// How many references there are.
+    pub const COUNT: usize = 2;
+}
+
+/// Where each word of a verdict stands. What does not apply is 0.
+pub mod verdict_word {
+    /// One of [`verdict_kind`](super::verdict_kind).
+    pub const KIND: usize = 0;
+    /// How many ticks are needed.
+    pub const NEEDED: usize = 1;
+    /// How many of them lie in a kept reference.
+    pub const COVERED: usize = 2;
+    /// The lowest needed tick that lies in none.
+    pub const LOWEST: usize = 3;
+    /// Covered x 100 / needed, rounded down.
+    pub const PERCENT: usize = 4;
+}
+
+/// The kinds of a verdict.
+pub mod verdict_kind {
+    /// No tick is needed; every other word is 0.
+    pub const NOTHING_NEEDED: u64 = 0;
+    /// Every needed tick is covered: covered is needed, lowest is 0, percent is 100.
+    pub const COMPLETE: u64 = 1;
+    /// A needed tick is not covered.
+    pub const LACKING: u64 = 2;
+}
+
+/// Where each word of an availability stands.
+pub mod availability_word {
+    /// One of [`availability_kind`](super::availability_kind).
+    pub const KIND: usize = 0;
+    /// From this grain on.
+    pub const START: usize = 1;
+    /// Up to this grain, which is excluded; 0 where it never ends.
+    pub const END: usize = 2;
+}
+
+/// The kinds of an availability.
+pub mod availability_kind {
+    /// No depth is given, so it never ends.
+    pub const NEVER_ENDS: i64 = 0;
+    /// It ends.
+    pub const ENDS: i64 = 1;
+}
+
+/// Where each word stands that tells the runs which touch a span. Both are 0 where none does.
+pub mod touching_word {
+    /// The place in the table of their first word.
+    pub const FROM: usize = 0;
+    /// The place past their last word.
+    pub const TO: usize = 1;
 }
 
 /// The functions of the archive. A slice passes as its pointer and its length.
@@ -107,7 +183,7 @@ mod archive {
             record_words: usize,
             table: *const u64,
             table_words: usize,
-            number: u32,
+            number: u64,
             out: *mut i64,
             out_words: usize,
         ) -> u32;
@@ -144,7 +220,31 @@ mod archive {
     }
 }
 
-/// Opens a timeline. Refusal 1.
+/// True where record and table agree, so that they are a timeline; false also where the record is
+/// not of 11 words.
+///
+/// The archive has no function for this alone. Asked for the runs that touch tick 0, it refuses
+/// for disagreement and for nothing else.
+///
+/// ```
+/// use flonterri::words::{self, word, RECORD_WORDS};
+///
+/// let (mut record, mut table) = ([0; RECORD_WORDS], [0; 30]);
+/// assert!(!words::agree(&record, &table));
+/// assert_eq!(words::open(&mut record, &mut table, 1000, 0, 0, 0, 0, 1, 0), 0);
+/// assert!(words::agree(&record, &table));
+/// record[word::RUNS_USED] = 1;
+/// assert!(!words::agree(&record, &table));
+/// ```
+pub fn agree(record: &[u64], table: &[u64]) -> bool {
+    touching(record, table, 0, 1, &mut [0; TOUCHING_WORDS]) == 0
+}
+
+/// Opens a timeline: writes the record and zeroes the table. It takes any words for both, since it
+/// reads none.
+///
+/// Refusal 1, which zeroes the record and leaves the table as it came; and 2 for the record's
+/// length alone.
 #[allow(clippy::too_many_arguments)]
 pub fn open(
     record: &mut [u64],
@@ -176,7 +276,9 @@ pub fn open(
     }
 }
 
-/// Appends by full tick. Refusals 2, 3, 4 or 5, 6, 7, 8, 9.
+/// Appends by full tick.
+///
+/// Refusals 2, 3, 4 or 5, 6, 7, 8, 9, in this order; each leaves record and table as they came.
 pub fn append(record: &mut [u64], table: &mut [u64], start: u64, duration: u32, count: u32) -> u32 {
     // SAFETY: as for `open`: two unique slices with their lengths, no pointer kept.
     unsafe {
@@ -192,7 +294,9 @@ pub fn append(record: &mut [u64], table: &mut [u64], start: u64, duration: u32, 
     }
 }
 
-/// Appends by stamp. Refusals 2, 3, 4 or 5, 6, 7, 8, 9.
+/// Appends by stamp.
+///
+/// Refusals 2, 3, 4 or 5, 6, 7, 8, 9, in this order; each leaves record and table as they came.
 pub fn append_stamp(
     record: &mut [u64],
     table: &mut [u64],
@@ -214,7 +318,9 @@ pub fn append_stamp(
     }
 }
 
-/// Trims at a clock. Refusals 2, 10.
+/// Trims at a clock.
+///
+/// Refusals 2, 10, in this order; each leaves record and table as they came.
 pub fn trim(record: &mut [u64], table: &mut [u64], clock: u64) -> u32 {
     // SAFETY: as for `open`: two unique slices with their lengths, no pointer kept.
     unsafe {
@@ -228,8 +334,10 @@ pub fn trim(record: &mut [u64], table: &mut [u64], clock: u64) -> u32 {
     }
 }
 
-/// The verdict at a clock. Refusals 2, 15, 10, 11. `out` is 5 words: kind (0 nothing needed, 1
-/// complete, 2 lacking), needed, covered, lowest, percent; what does not apply is 0.
+/// The verdict at a clock. `out` is [`VERDICT_WORDS`] words, in the order that [`verdict_word`]
+/// tells.
+///
+/// Refusals 2, 10, 11, in this order, and 15 for the length of `out`; each leaves `out` as it came.
 pub fn verdict(record: &[u64], table: &[u64], clock: u64, out: &mut [u64]) -> u32 {
     // SAFETY: two slices that are only read and one that is borrowed uniquely, each with its own
     // length; the function keeps no pointer.
@@ -246,7 +354,9 @@ pub fn verdict(record: &[u64], table: &[u64], clock: u64, out: &mut [u64]) -> u3
     }
 }
 
-/// The verdict of the whole period. Refusals 2, 15, 19. `out` as for [`verdict`].
+/// The verdict of the whole period, `out` as for [`verdict`].
+///
+/// Refusals 2, 19, in this order, and 15 for the length of `out`; each leaves `out` as it came.
 pub fn verdict_whole(record: &[u64], table: &[u64], out: &mut [u64]) -> u32 {
     // SAFETY: as for `verdict`: two slices only read, one unique, no pointer kept.
     unsafe {
@@ -261,9 +371,12 @@ pub fn verdict_whole(record: &[u64], table: &[u64], out: &mut [u64]) -> u32 {
     }
 }
 
-/// The availability of a number. Refusals 2, 15, 13. `out` is 3 words: kind (0 never ends, 1
-/// ends), start, end (0 for never).
-pub fn availability(record: &[u64], table: &[u64], number: u32, out: &mut [i64]) -> u32 {
+/// The availability of a number. `out` is [`AVAILABILITY_WORDS`] words, in the order that
+/// [`availability_word`] tells, in signed grains from availabilityStartTime.
+///
+/// Refusals 2, 13, in this order, and 15 for the length of `out`; each leaves `out` as it came. A
+/// number that no kept reference has is 13, whatever its size; so is each over 2^32 - 1.
+pub fn availability(record: &[u64], table: &[u64], number: u64, out: &mut [i64]) -> u32 {
     // SAFETY: as for `verdict`: two slices only read, one unique, no pointer kept.
     unsafe {
         archive::flonterri_availability(
@@ -278,8 +391,10 @@ pub fn availability(record: &[u64], table: &[u64], number: u32, out: &mut [i64])
     }
 }
 
-/// The runs that touch the ticks from a to b, b excluded. Refusals 2, 15, 14. `out` is 2 words:
-/// the first word and one past the last word of those runs in the table, both 0 if none touches.
+/// The runs that touch the ticks from a to b, b excluded. `out` is [`TOUCHING_WORDS`] words, in the
+/// order that [`touching_word`] tells.
+///
+/// Refusals 2, 14, in this order, and 15 for the length of `out`; each leaves `out` as it came.
 pub fn touching(record: &[u64], table: &[u64], a: u64, b: u64, out: &mut [u64]) -> u32 {
     // SAFETY: as for `verdict`: two slices only read, one unique, no pointer kept.
     unsafe {
@@ -296,8 +411,12 @@ pub fn touching(record: &[u64], table: &[u64], a: u64, b: u64, out: &mut [u64]) 
     }
 }
 
-/// Reads a file. Refusals 2 and 15 for the lengths, then 1, 3 to 9, 16, 17, 18. `out` is 1 word:
-/// the refused line, 0 where accepted.
+/// Reads a file into record and table, which may hold any words before. `out` is 1 word: the
+/// refused line, counted from 1, or 0 where the file is accepted.
+///
+/// Refusals 1, 3 to 9, 16, 17, 18 by a line: the first refused line decides, and on a line 16 comes
+/// first, then 17, then its fields. Each zeroes record and table and puts the line into `out`. And
+/// for the lengths alone 2, then 15, which leave record, table and `out` as they came.
 pub fn read(bytes: &[u8], record: &mut [u64], table: &mut [u64], out: &mut [u64]) -> u32 {
     // SAFETY: one slice that is only read and three that are borrowed uniquely, each with its own
     // length; the function keeps no pointer.
@@ -315,8 +434,11 @@ pub fn read(bytes: &[u8], record: &mut [u64], table: &mut [u64], out: &mut [u64]
     }
 }
 
-/// Writes the file into an output; the bytes behind it stay. Refusals 2, 12, 15. `out` is 1 word:
-/// the length.
+/// Writes the file into the front of an output; the bytes behind it stay as they came. `out` is 1
+/// word: the length.
+///
+/// Refusals 2, 12, 15, in this order: 15 for bytes that are fewer than the file's, and before all
+/// but the record's length for that of `out`. Each leaves the bytes and `out` as they came.
 pub fn write(record: &[u64], table: &[u64], bytes: &mut [u8], out: &mut [u64]) -> u32 {
     // SAFETY: two slices that are only read and two that are borrowed uniquely, each with its own
     // length; the function keeps no pointer.

@@ -1,11 +1,12 @@
 //! The paper's cases through the safe calls, and what the safe calls add to the archive's.
 
+use flonterri::words::{self, word, RECORD_WORDS};
 use flonterri::{
-    Availability, Grain, Head, Millis, Number, Refusal, RefusedFile, Run, Span, Stamp, Tick,
-    Timeline, Timescale, Verdict,
+    Availability, Grain, Head, Millis, Number, OpenError, ReadError, Refusal, RefusedFile, Run,
+    Span, Stamp, Tick, Timeline, Timescale, Verdict,
 };
 
-type Outcome = Result<(), Refusal>;
+type Outcome = Result<(), OpenError>;
 
 const WORKED_FILE: &str = "\
 01000003e8000000000000000000000000000000000000000000000000000000000000271000000003
@@ -13,7 +14,7 @@ const WORKED_FILE: &str = "\
 0300000001
 ";
 
-fn case_a() -> Result<Timeline, Refusal> {
+fn case_a() -> Result<Timeline, OpenError> {
     let head = Head {
         offset: Tick(100),
         start: Millis(30_000),
@@ -27,7 +28,7 @@ fn case_a() -> Result<Timeline, Refusal> {
     Ok(timeline)
 }
 
-fn case_b() -> Result<Timeline, Refusal> {
+fn case_b() -> Result<Timeline, OpenError> {
     let head = Head {
         depth: Millis(10_000),
         first_number: Number(1),
@@ -38,7 +39,7 @@ fn case_b() -> Result<Timeline, Refusal> {
     Ok(timeline)
 }
 
-fn case_d() -> Result<Timeline, Refusal> {
+fn case_d() -> Result<Timeline, OpenError> {
     let head = Head {
         duration: Millis(500),
         ..Head::new(Timescale(3))
@@ -231,7 +232,7 @@ fn d_a_negative_r_gives_two() {
         refusal: Refusal::NoEndToReach,
         line: 2,
     };
-    assert_eq!(refused, Err(expected));
+    assert_eq!(refused, Err(ReadError::Refused(expected)));
     assert_eq!(
         expected.to_string(),
         "line 2: refusal 18: a negative r, and the period end is unknown"
@@ -242,11 +243,11 @@ fn d_a_negative_r_gives_two() {
 fn an_opening_over_its_limit() {
     assert_eq!(
         Timeline::open(Head::new(Timescale(0)), Tick(0), 10),
-        Err(Refusal::OverLimit)
+        Err(OpenError::Refused(Refusal::OverLimit))
     );
     assert_eq!(
         Timeline::open(Head::new(Timescale(1)), Tick(Tick::LARGEST.0 + 1), 10),
-        Err(Refusal::OverLimit)
+        Err(OpenError::Refused(Refusal::OverLimit))
     );
 }
 
@@ -264,23 +265,180 @@ fn no_room() -> Outcome {
     Ok(())
 }
 
+/// Numbers of runs that no memory holds. Those of the first row pass 64 bits as words and would wrap
+/// round, the second of them to a table of 2 words; those of the second row do so as bytes; those of
+/// the last row fit, and pass any address space.
+#[test]
+fn no_memory_for_so_many_runs() {
+    let rows = [
+        [usize::MAX, usize::MAX / 3 + 1],
+        [usize::MAX / 3, usize::MAX / 24 + 1],
+        [1 << 57, 1 << 55],
+    ];
+    for runs in rows.concat() {
+        let opened = Timeline::open(Head::new(Timescale(1000)), Tick(0), runs);
+        assert_eq!(opened, Err(OpenError::NoMemory { runs }));
+        let read = Timeline::read(WORKED_FILE.as_bytes(), runs);
+        assert_eq!(read, Err(ReadError::NoMemory { runs }));
+    }
+    let error: OpenError = OpenError::NoMemory { runs: 1 << 55 };
+    assert_eq!(
+        error.to_string(),
+        "no memory for a table of 36028797018963968 runs"
+    );
+}
+
+#[test]
+fn errors_are_shown_as_what_they_hold() {
+    let refused = OpenError::from(Refusal::OverLimit);
+    assert_eq!(refused.to_string(), Refusal::OverLimit.to_string());
+    let refused = Timeline::read(b"", 1).expect_err("a missing line");
+    assert!(refused.to_string().starts_with("line 1: refusal 16: "));
+    let error: Box<dyn std::error::Error> = refused.into();
+    assert!(error.source().is_some());
+}
+
 #[test]
 fn words_kept_elsewhere() -> Outcome {
     let timeline = case_b()?;
     let record = *timeline.record_words();
     let table = timeline.table_words().to_vec();
-    assert_eq!(Timeline::of_words(record, table.clone()), timeline);
+    assert_eq!(Timeline::of_words(record, table.clone())?, timeline);
 
-    let mut damaged = record;
-    damaged[10] = u64::MAX;
-    let mut damaged = Timeline::of_words(damaged, table);
-    let before = damaged.clone();
-    assert_eq!(damaged.trim(Millis(14_000)), Err(Refusal::Disagreement));
-    assert_eq!(damaged.write(), Err(Refusal::Disagreement));
-    assert_eq!(damaged.verdict(Millis(14_000)), Err(Refusal::Disagreement));
-    assert_eq!(damaged.runs().len(), 10);
-    assert_eq!(damaged, before);
+    // Words that an accessor would have to cut, or that are no timeline for another reason.
+    for (at, damage) in [
+        (word::TIMESCALE, 1000 + (1 << 32)),
+        (word::FIRST_NUMBER, 1 + (1 << 32)),
+        (word::DROPPED, u64::MAX),
+        (word::NEXT_TICK, 1 << 52),
+        (word::RUNS_USED, 1 + (1 << 32)),
+        (word::RUNS_USED, u64::MAX),
+    ] {
+        let mut damaged = record;
+        damaged[at] = damage;
+        let made = Timeline::of_words(damaged, table.clone());
+        assert_eq!(made, Err(Refusal::Disagreement));
+        assert!(!words::agree(&damaged, &table));
+        let mut length = [0; words::WRITE_WORDS];
+        assert_eq!(words::write(&damaged, &table, &mut [], &mut length), 2);
+    }
+    let mut damaged = table;
+    damaged[1] += 1 << 32;
+    let made = Timeline::of_words(record, damaged);
+    assert_eq!(made, Err(Refusal::Disagreement));
+
+    let nothing = Timeline::of_words([0; RECORD_WORDS], Vec::new());
+    assert_eq!(nothing, Err(Refusal::Disagreement));
+    assert!(!words::agree(&record[..10], timeline.table_words()));
     Ok(())
+}
+
+/// What is as wide as its limit allows comes back whole.
+#[test]
+fn the_widest_words() -> Outcome {
+    let head = Head {
+        offset: Tick::LARGEST,
+        start: Millis::LARGEST,
+        duration: Millis::LARGEST,
+        depth: Millis::LARGEST,
+        first_number: Number(u32::MAX - 2),
+        timescale: Timescale::LARGEST,
+    };
+    let duration = Span(u32::MAX);
+    let first = Tick(Tick::LARGEST.0 - 2 * u64::from(duration.0));
+    let mut timeline = Timeline::open(head, first, 10)?;
+    timeline.append(first, duration, 2)?;
+    assert_eq!(timeline.dropped(), 2);
+    assert_eq!(timeline.head(), head);
+    assert_eq!(timeline.next_tick(), Tick::LARGEST);
+    assert_eq!(timeline.first_kept_number(), Number(u32::MAX));
+
+    let mut timeline = Timeline::open(
+        Head {
+            offset: first,
+            ..head
+        },
+        first,
+        10,
+    )?;
+    timeline.append(first, duration, 2)?;
+    let run = Run {
+        start: first,
+        duration,
+        count: 2,
+    };
+    assert_eq!(timeline.runs().collect::<Vec<_>>(), [run]);
+    assert_eq!(timeline.runs_used(), 1);
+    Ok(())
+}
+
+/// The names of the words of an `out`, by the paper's case B.
+#[test]
+fn words_of_an_answer() -> Outcome {
+    use words::{availability_kind, availability_word, touching_word, verdict_kind, verdict_word};
+
+    let timeline = case_b()?;
+    let (record, table) = (timeline.record_words(), timeline.table_words());
+
+    let mut verdict = [0; words::VERDICT_WORDS];
+    assert_eq!(words::verdict(record, table, 20_001, &mut verdict), 0);
+    assert_eq!(verdict[verdict_word::KIND], verdict_kind::LACKING);
+    assert_eq!(verdict[verdict_word::NEEDED], 10_000);
+    assert_eq!(verdict[verdict_word::COVERED], 9_999);
+    assert_eq!(verdict[verdict_word::LOWEST], 20_000);
+    assert_eq!(verdict[verdict_word::PERCENT], 99);
+
+    let mut availability = [0; words::AVAILABILITY_WORDS];
+    let answer = words::availability(record, table, 3, &mut availability);
+    assert_eq!(answer, 0);
+    assert_eq!(
+        availability[availability_word::KIND],
+        availability_kind::ENDS
+    );
+    assert_eq!(availability[availability_word::START], 12_000_000);
+    assert_eq!(availability[availability_word::END], 26_000_000);
+
+    let mut touching = [7; words::TOUCHING_WORDS];
+    assert_eq!(words::touching(record, table, 0, 1, &mut touching), 0);
+    assert_eq!(touching[touching_word::FROM], 0);
+    assert_eq!(touching[touching_word::TO], 3);
+    Ok(())
+}
+
+#[test]
+fn a_number_over_32_bits_is_not_kept() -> Outcome {
+    let timeline = case_b()?;
+    let (record, table) = (timeline.record_words(), timeline.table_words());
+    let before = [-7; words::AVAILABILITY_WORDS];
+    for number in [(1 << 32) + 3, (1 << 63) + 3, u64::MAX] {
+        let mut out = before;
+        assert_eq!(words::availability(record, table, number, &mut out), 13);
+        assert_eq!(out, before);
+    }
+    Ok(())
+}
+
+/// What a refused opening and a refused reading leave.
+#[test]
+fn words_that_a_refusal_leaves() {
+    let (came, table_came) = ([9; RECORD_WORDS], [9; 3]);
+
+    let (mut record, mut table) = (came, table_came);
+    let number = words::open(&mut record, &mut table, 0, 0, 0, 0, 0, 0, 0);
+    assert_eq!((number, record, table), (1, [0; RECORD_WORDS], table_came));
+    let (mut record, mut table) = (came, table_came);
+    let number = words::open(&mut record[1..], &mut table, 1, 0, 0, 0, 0, 0, 0);
+    assert_eq!((number, record, table), (2, came, table_came));
+
+    let (mut record, mut table, mut out) = (came, table_came, [9]);
+    let number = words::read(b"", &mut record, &mut table, &mut out);
+    assert_eq!((number, record, table), (16, [0; RECORD_WORDS], [0; 3]));
+    assert_eq!(out, [1]);
+    let (mut record, mut table, mut out) = (came, table_came, [9, 9]);
+    let number = words::read(b"", &mut record[1..], &mut table, &mut out);
+    assert_eq!((number, record, table, out), (2, came, table_came, [9, 9]));
+    let number = words::read(b"", &mut record, &mut table, &mut out);
+    assert_eq!((number, record, table, out), (15, came, table_came, [9, 9]));
 }
 
 #[test]

@@ -43,7 +43,7 @@ fn row(number: u32, out: &[u64]) -> String {
 /// Whether an availability ends; its points are asked by `clock`, at the clocks around them.
 fn availability(record: &[u64], table: &[u64], number: u64) -> String {
     let mut out = [0i64; 3];
-    let answer = face::availability(record, table, number as u32, &mut out);
+    let answer = face::availability(record, table, number, &mut out);
     row(answer, &[out[0] as u64, 0, 0, 0, 0])
 }
 

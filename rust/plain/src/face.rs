@@ -5,9 +5,9 @@
 //! greatest clock, runs used. A record of another length is 2; then an `out` of another length
 //! than the function's is 15; both leave all memory as it came.
 //!
-//! On a refusal `out` stays as it came, but for the line of a refused reading. Opening refused:
-//! record zeroed, table as it came. Reading refused: record and table zeroed. Any other refused
-//! call changes nothing.
+//! On another refusal `out` stays as it came, but for the line of a refused reading. Opening
+//! refused: record zeroed, table as it came. Reading refused: record and table zeroed. Any other
+//! refused call changes nothing.
 
 use crate::availability::Availability;
 use crate::file;
@@ -164,10 +164,11 @@ fn availability_words(availability: Availability) -> [i64; 3] {
     }
 }
 
-/// The availability of a number. Refusals 2, 13. `out` is 3 words: kind (0 never ends, 1 ends),
-/// start, end (0 for never).
-pub fn availability(record: &[u64], table: &[u64], number: u32, out: &mut [i64]) -> u32 {
+/// The availability of a number, which may be any: one over 2^32 - 1 is not kept. Refusals 2, 13.
+/// `out` is 3 words: kind (0 never ends, 1 ends), start, end (0 for never).
+pub fn availability(record: &[u64], table: &[u64], number: u64, out: &mut [i64]) -> u32 {
     ask(record, table, out, |timeline| {
+        let number = u32::try_from(number).map_err(|_| Refusal::NumberNotKept)?;
         timeline.availability(number).map(availability_words)
     })
 }

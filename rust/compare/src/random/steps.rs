@@ -102,17 +102,19 @@ fn append_stamp(generator: &mut Generator, state: &State) -> Call {
     }
 }
 
-/// A number: kept, just before or behind the kept ones, or anything.
-fn number(generator: &mut Generator, state: &State) -> u32 {
+/// A number: kept, just before or behind the kept ones, one whose low 32 bits alone are kept, or
+/// anything.
+fn number(generator: &mut Generator, state: &State) -> u64 {
     let first = state.first_kept_number();
-    let number = match generator.below(8) {
+    let kept = first.wrapping_add(generator.below(state.kept().max(1)));
+    match generator.below(9) {
         0 => first.wrapping_sub(1),
         1 => first.wrapping_add(state.kept()),
-        2 => generator.pick(&[0, limits::NUMBER]),
-        3 => generator.number(),
-        _ => first.wrapping_add(generator.below(state.kept().max(1))),
-    };
-    number as u32
+        2 => generator.pick(&[0, limits::NUMBER, limits::NUMBER + 1, u64::MAX]),
+        3 => generator.of_any_size(),
+        4 => kept.wrapping_add(generator.pick(&[1, 1 << 31]) << 32),
+        _ => kept,
+    }
 }
 
 /// A span whose ends lie at or beside the ends of runs.

@@ -186,6 +186,20 @@ fn an_availability_that_ends_without_the_own_duration() {
 }
 
 #[test]
+fn a_number_cut_to_32_bits() {
+    let availability = |record: &[u64], table: &[u64], number, out: &mut [i64]| {
+        (PLAIN.availability)(record, table, number & limits::NUMBER, out)
+    };
+    found(
+        Face {
+            availability,
+            ..PLAIN
+        },
+        "number: 0 and 13",
+    );
+}
+
+#[test]
 fn a_span_whose_end_is_included() {
     let touching = |record: &[u64], table: &[u64], a, b: u64, out: &mut [u64]| {
         (PLAIN.touching)(record, table, a, b.saturating_add(1), out)

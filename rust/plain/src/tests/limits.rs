@@ -99,8 +99,8 @@ fn the_last_number_and_one_more() {
     assert_eq!(lent.join(1, 6), 7);
     assert_eq!(lent.join(1, 5), 0);
     assert_eq!(lent.join(1, 1), 7);
-    assert!(lent.availability(u32::MAX - 1).is_ok());
-    assert_eq!(lent.availability(u32::MAX), Err(13));
+    assert!(lent.availability(u64::from(u32::MAX) - 1).is_ok());
+    assert_eq!(lent.availability(u32::MAX.into()), Err(13));
 }
 
 #[test]

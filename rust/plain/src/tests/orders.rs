@@ -20,7 +20,7 @@ fn agreement_comes_before_all_else() {
     assert_eq!(lent.trim(u64::MAX), 2);
     assert_eq!(lent.verdict(u64::MAX), Err(2));
     assert_eq!(lent.verdict_whole(), Err(2));
-    assert_eq!(lent.availability(u32::MAX), Err(2));
+    assert_eq!(lent.availability(u64::MAX), Err(2));
     assert_eq!(lent.available_at(u32::MAX, u64::MAX), Err(2));
     assert_eq!(lent.touching(1, 0), Err(2));
     assert_eq!(lent.write_into(0), Err(2));

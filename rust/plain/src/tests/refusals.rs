@@ -93,11 +93,13 @@ fn availability() {
     let mut lent = case_b();
     assert_eq!(lent.availability(0), Err(13));
     assert_eq!(lent.availability(6), Err(13));
-    assert_eq!(lent.availability(u32::MAX), Err(13));
+    assert_eq!(lent.availability(u32::MAX.into()), Err(13));
     assert_eq!(lent.trim(14_000), 0);
     assert_eq!(lent.availability(1), Err(13));
     assert!(lent.availability(2).is_ok());
     assert!(lent.availability(5).is_ok());
+    assert_eq!(lent.availability((1 << 32) + 2), Err(13));
+    assert_eq!(lent.availability(u64::MAX), Err(13));
 }
 
 #[test]

@@ -332,7 +332,7 @@ fn availability(generator: &mut Generator, lent: &Lent, model: &Model) {
         0 => generator.next() as u32,
         _ => lent.record[FIRST_NUMBER] as u32 + generator.below(12) as u32,
     };
-    assert_eq!(lent.availability(number), model.availability(number));
+    assert_eq!(lent.availability(number.into()), model.availability(number));
     let clock = random_clock(generator);
     let expected = model.available_at(number, clock);
     assert_eq!(lent.available_at(number, clock), expected);

@@ -136,7 +136,7 @@ impl Lent {
         })
     }
 
-    pub fn availability(&self, number: u32) -> Result<[i64; 3], u32> {
+    pub fn availability(&self, number: u64) -> Result<[i64; 3], u32> {
         asked(5555, |out| {
             face::availability(&self.record, &self.table, number, out)
         })
