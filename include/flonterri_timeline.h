@@ -122,17 +122,18 @@ static inline uint32_t flonterri_timeline_trim(struct flonterri_timeline *timeli
 
 /* ---- the calls that look: refused, they leave the answer as it came */
 
-/* A verdict by its words. */
-static inline struct flonterri_verdict_answer flonterri_verdict_of_words(const uint64_t *words)
+/* Gives a verdict by its words, unless it is refused. */
+static inline uint32_t flonterri_verdict_told(uint32_t refusal, const uint64_t *out,
+                                              struct flonterri_verdict_answer *answer)
 {
-    struct flonterri_verdict_answer answer;
-
-    answer.kind = (enum flonterri_verdict_kind)words[FLONTERRI_VERDICT_KIND];
-    answer.needed = words[FLONTERRI_VERDICT_NEEDED];
-    answer.covered = words[FLONTERRI_VERDICT_COVERED];
-    answer.lowest = words[FLONTERRI_VERDICT_LOWEST];
-    answer.percent = words[FLONTERRI_VERDICT_PERCENT];
-    return answer;
+    if (refusal == FLONTERRI_OK) {
+        answer->kind = (enum flonterri_verdict_kind)out[FLONTERRI_VERDICT_KIND];
+        answer->needed = out[FLONTERRI_VERDICT_NEEDED];
+        answer->covered = out[FLONTERRI_VERDICT_COVERED];
+        answer->lowest = out[FLONTERRI_VERDICT_LOWEST];
+        answer->percent = out[FLONTERRI_VERDICT_PERCENT];
+    }
+    return refusal;
 }
 
 /* The verdict at a clock. Refusals 2, 10, 11. */
@@ -143,10 +144,7 @@ static inline uint32_t flonterri_timeline_verdict(const struct flonterri_timelin
     uint32_t refusal = flonterri_verdict(timeline->record, FLONTERRI_RECORD_WORDS, timeline->table,
                                          timeline->table_words, clock, out, FLONTERRI_VERDICT_WORDS);
 
-    if (refusal == FLONTERRI_OK) {
-        *answer = flonterri_verdict_of_words(out);
-    }
-    return refusal;
+    return flonterri_verdict_told(refusal, out, answer);
 }
 
 /* The verdict of the whole period. Refusals 2, 19. */
@@ -157,10 +155,7 @@ static inline uint32_t flonterri_timeline_verdict_whole(const struct flonterri_t
     uint32_t refusal = flonterri_verdict_whole(timeline->record, FLONTERRI_RECORD_WORDS, timeline->table,
                                                timeline->table_words, out, FLONTERRI_VERDICT_WORDS);
 
-    if (refusal == FLONTERRI_OK) {
-        *answer = flonterri_verdict_of_words(out);
-    }
-    return refusal;
+    return flonterri_verdict_told(refusal, out, answer);
 }
 
 /* When the kept reference of a number is available. Refusals 2, 13. */

@@ -4,3 +4,4 @@ pub mod Telling
 pub mod Lengths
 pub mod Facing
 pub mod Refusing
+pub mod Binding

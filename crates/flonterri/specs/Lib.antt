@@ -1,3 +1,4 @@
 pub mod Words
 pub mod Tells
 pub mod Face
+pub mod Binding

@@ -1,0 +1,200 @@
+-- What a binding relies on: accepted calls leave words that agree, a call that looks tells whether words agree, and a wide number is not kept.
+use mathlib.Core.Path.{_≡_, refl, sym, ap, _∙_}
+use mathlib.Core.Bool.{Bool, true, false, cond}
+use mathlib.Core.List.{List, [], _∷_, append-nil}
+use Prim.Native.Nat.{ℕ, _+_, _*_, _≤_, _<_}
+use native.Mathlib.Omega.{arith}
+use borrow.Author.Tests.{eqb-false, leb-true}
+use lib.Dec.{eqb}
+use lib.IntN.{ℤ}
+use lib.ListN.{length}
+use Rattle.units.specs.declared.Millis.{Millis}
+use Rattle.units.specs.declared.standing.Standing.{Standing}
+use Rattle.units.specs.Limits.{largestSpan, largestMillis, largestNumber, millisHeld}
+use Rattle.units.specs.Standing.{tickStanding, stampStanding}
+use Rattle.runs.specs.Words.{runsOf}
+use Rattle.agreement.specs.declared.Record.{Record}
+use Rattle.agreement.specs.declared.refusal.Refusal.{Refusal}
+use Rattle.agreement.specs.declared.refusal.Refusal.the-variants as refusal
+use Rattle.agreement.specs.Agreement.{kept, agrees}
+use Rattle.agreement.specs.Numbers.{refusalNumber}
+use Rattle.agreement.proofs.Agreeing.{agreeing}
+use Rattle.keeping.specs.declared.Outcome.{Outcome}
+use Rattle.keeping.specs.declared.Outcome.the-variants as outcome
+use Rattle.keeping.specs.Keeping.{outcomeNumber, changedBy, wordsBy}
+use Rattle.timeline.specs.Opening.{openOutcome}
+use Rattle.timeline.specs.Appending.{appendOutcome}
+use Rattle.timeline.specs.Trimming.{trimOutcome}
+use Rattle.timeline.proofs.Kept.{open-agrees, trim-keeps, accepted-keeps}
+use Rattle.answers.specs.declared.Numbered.the-variants.{Missing}
+use Rattle.answers.specs.declared.Availability.the-variants as availability
+use Rattle.answers.specs.Available.{numbered, keptNumber, numberAvailability, availabilityIn}
+use Rattle.answers.specs.declared.Touching.{Touching}
+use Rattle.answers.specs.declared.Touching.the-variants as touching
+use Rattle.answers.specs.Spans.{touches, beforeFirst, uptoLast, touchingWords}
+use Rattle.answers.proofs.Numbering.{after}
+use Rattle.file.specs.declared.Reading.{Reading}
+use Rattle.file.specs.Judging.{readOutcome, readAnswer, readTable, answeredBy, readLines}
+use Rattle.file.proofs.Stable.{read-agrees}
+use Rattle.flonterri.specs.Words.{recordWords, recordOf, wordsOf, headWith}
+use Rattle.flonterri.specs.Tells.{Tells, availabilityTells, touchingTells}
+use Rattle.flonterri.specs.Face.{wrongRecord, wrongLength, guarded, Changes, changes, opens, appendsBy, appends, appendsStamp, trims, tells, tellsTouching, tellsAvailability, Reads, readsBy, reads}
+use Rattle.flonterri.specs.Binding.{agreed, LeavesAgreed, Binding}
+use Rattle.flonterri.proofs.Words.{record-words}
+use Rattle.flonterri.proofs.Lengths.{both-right, behind}
+
+-- no refusal has the number 0
+pub refusal-some : (why : Refusal) → refusalNumber why ≡ 0 → ⊥
+refusal-some why = eqb-false (refusalNumber why) 0 (go why)
+  where
+    go : (why : Refusal) → eqb (refusalNumber why) 0 ≡ false
+    go refusal.OverLimit = refl
+    go refusal.Disagreement = refl
+    go refusal.NothingGiven = refl
+    go refusal.Gap = refl
+    go refusal.Overlap = refl
+    go refusal.TickLimit = refl
+    go refusal.CountLimit = refl
+    go refusal.PastEnd = refl
+    go refusal.NoRunLeft = refl
+    go refusal.ClockLimit = refl
+    go refusal.EarlierClock = refl
+    go refusal.NothingKept = refl
+    go refusal.NotKept = refl
+    go refusal.EmptySpan = refl
+    go refusal.ShortOutput = refl
+    go refusal.BadLine = refl
+    go refusal.BadOrder = refl
+    go refusal.NoEndToReach = refl
+    go refusal.EndUnknown = refl
+
+-- ---- the calls that change
+
+-- a call that leaves a new record and new words where it is accepted, and these agree then
+module _ (ws ts : List ℕ) (new old : Record) (left : List ℕ) where
+  leaves-agreed : (o : Outcome) → (o ≡ outcome.Accepted → agrees new left ≡ true) → LeavesAgreed (changes ws ts (changedBy o new old) (wordsBy o left ts))
+  unfolding changes guarded wrongRecord changedBy wordsBy
+  leaves-agreed o k = go (eqb (length ws) recordWords) o k
+    where
+      at : Bool → Outcome → Changes
+      at t o =
+          cond (eqb (cond t 0 2) 0)
+          (record { number = outcomeNumber (changedBy o new old .outcome); words = wordsOf (changedBy o new old .rec); table = wordsBy o left ts })
+          (record { number = cond t 0 2; words = ws; table = ts })
+
+      go : (t : Bool) (o : Outcome) → (o ≡ outcome.Accepted → agrees new left ≡ true) → LeavesAgreed (at t o)
+      go false o k z = let y : ⊥ = omega arith in absurd y
+      go true outcome.Accepted k z = ap (λ r. agrees r left) (record-words new) ∙ k refl
+      go true (outcome.Refused why) k z = absurd (refusal-some why z)
+
+opening-agreed : (ws ts : List ℕ) (timescale offset start duration depth first tick : ℕ) → LeavesAgreed (opens ws ts timescale offset start duration depth first tick)
+unfolding opens
+opening-agreed ws ts timescale offset start duration depth first tick =
+    let h = headWith timescale offset start duration depth first in
+    leaves-agreed ws ts _ _ _ (openOutcome h (record { 0 = tick })) (open-agrees h (record { 0 = tick }) (length ts))
+
+appends-agreed : (ws ts : List ℕ) (st : Standing) (d n : ℕ) → d ≤ largestSpan → LeavesAgreed (appendsBy ws ts st d n)
+appends-agreed ws ts st d n small =
+    leaves-agreed ws ts _ _ _ (appendOutcome (recordOf ws) ts st d n) (accepted-keeps (recordOf ws) ts st d n small)
+
+append-agreed : (ws ts : List ℕ) (start d n : ℕ) → d ≤ largestSpan → LeavesAgreed (appends ws ts start d n)
+unfolding appends
+append-agreed ws ts start d n small = appends-agreed ws ts (tickStanding (record { 0 = start }) (recordOf ws .next)) d n small
+
+stamp-agreed : (ws ts : List ℕ) (stamp d n : ℕ) → d ≤ largestSpan → LeavesAgreed (appendsStamp ws ts stamp d n)
+unfolding appendsStamp
+stamp-agreed ws ts stamp d n small = appends-agreed ws ts (stampStanding (record { 0 = stamp }) (recordOf ws .next)) d n small
+
+-- what an accepted trim has passed: 2 and 10
+trim-passed : (rec : Record) (ws : List ℕ) (c : Millis) → trimOutcome rec ws c ≡ outcome.Accepted → (agrees rec ws ≡ true) × (c .0 ≤ largestMillis)
+unfolding trimOutcome
+trim-passed rec ws c o = go (agrees rec ws) (millisHeld c) refl o
+  where
+    go : (s t : Bool) → millisHeld c ≡ t → cond s (cond t outcome.Accepted (outcome.Refused refusal.ClockLimit)) (outcome.Refused refusal.Disagreement) ≡ outcome.Accepted → (s ≡ true) × (c .0 ≤ largestMillis)
+    go true true e o = (refl, leb-true (c .0) largestMillis e)
+    go true false e o = absurd (refusal-some refusal.ClockLimit (ap outcomeNumber o))
+    go false t e o = absurd (refusal-some refusal.Disagreement (ap outcomeNumber o))
+
+trim-agreed : (ws ts : List ℕ) (c : ℕ) → LeavesAgreed (trims ws ts c)
+unfolding trims
+trim-agreed ws ts c =
+    leaves-agreed ws ts _ _ _ (trimOutcome (recordOf ws) ts (record { 0 = c }))
+    (λ o. let p = trim-passed (recordOf ws) ts (record { 0 = c }) o in trim-keeps (recordOf ws) ts (record { 0 = c }) (p .0) (p .1))
+
+-- ---- reading
+
+-- a reading whose number is 0 is accepted
+read-accepted : (o : Outcome) (r : Reading) → outcomeNumber (answeredBy o r .outcome) ≡ 0 → o ≡ outcome.Accepted
+read-accepted outcome.Accepted r z = refl
+read-accepted (outcome.Refused why) r z = absurd (refusal-some why z)
+
+read-agreed : (bytes ws ts out : List ℕ) → reads bytes ws ts out .number ≡ 0 → agreed (reads bytes ws ts out .words) (reads bytes ws ts out .table) ≡ true
+unfolding reads readsBy guarded readAnswer
+read-agreed bytes ws ts out = go (eqb (wrongLength (length ws) (length out) 1) 0) refl
+  where
+    at : Bool → Reads
+    at t =
+        cond t
+        (record { number = outcomeNumber (readAnswer bytes ts .outcome); words = wordsOf (readAnswer bytes ts .rec); table = readTable bytes ts; out = readAnswer bytes ts .line ∷ [] })
+        (record { number = wrongLength (length ws) (length out) 1; words = ws; table = ts; out = out })
+
+    go : (t : Bool) → eqb (wrongLength (length ws) (length out) 1) 0 ≡ t → at t .number ≡ 0 → agreed (at t .words) (at t .table) ≡ true
+    go true e z =
+        ap (λ r. agrees r (readTable bytes ts)) (record-words (readAnswer bytes ts .rec)) ∙
+        read-agrees bytes ts (read-accepted (readOutcome bytes ts) (readLines bytes ts .reading) z)
+    go false e z = absurd (eqb-false (wrongLength (length ws) (length out) 1) 0 e z)
+
+-- ---- the calls that look
+
+-- behind right lengths
+told-number : {A : Type 0} (ws : List ℕ) (size : ℕ) (call : List A → Tells A) (out : List A) → length ws ≡ recordWords → length out ≡ size → tells ws size call out .number ≡ call out .number
+unfolding tells
+told-number {A} ws size call out l m = sym (ap (λ (t : Tells A). t .number) (behind _ _ (call out) 0 (both-right _ _ size l m) refl))
+
+-- asked from 0 up to 1, words are told or disagreement is
+touching-number : (rec : Record) (ts out : List ℕ) → touchingTells (touchingWords rec ts (record { 0 = 0 }) (record { 0 = 1 })) out .number ≡ cond (agrees rec ts) 0 2
+unfolding touchingTells
+touching-number rec ts out = go (agrees rec ts) (eqb (uptoLast (touches 0 1) (runsOf (rec .used) ts)) 0)
+  where
+    at : Bool → Touching
+    at none =
+        cond none (touching.Words 0 0)
+        (touching.Words (3 * beforeFirst (touches 0 1) (runsOf (rec .used) ts)) (3 * uptoLast (touches 0 1) (runsOf (rec .used) ts)))
+
+    go : (t none : Bool) → touchingTells (cond t (at none) (touching.Refused refusal.Disagreement)) out .number ≡ cond t 0 2
+    go true true = refl
+    go true false = refl
+    go false none = refl
+
+touching-told : (ws ts out : List ℕ) → length ws ≡ recordWords → length out ≡ 2 → tellsTouching ws ts 0 1 out .number ≡ cond (agreed ws ts) 0 2
+unfolding tellsTouching
+touching-told ws ts out l m =
+    told-number ws 2 (touchingTells (touchingWords (recordOf ws) ts (record { 0 = 0 }) (record { 0 = 1 }))) out l m ∙
+    touching-number (recordOf ws) ts out
+
+wide-missing : (rec : Record) (ts : List ℕ) (n : ℕ) → agrees rec ts ≡ true → largestNumber < n → keptNumber rec ts n ≡ Missing
+unfolding numbered
+wide-missing rec ts n a w =
+    let f = agreeing rec ts a in
+    let first : ℕ = rec .head .first .0 + rec .dropped in
+    ap (λ rs. numbered first rs n) (sym (append-nil (kept rec ts))) ∙
+    after first n (kept rec ts) [] (omega (arith, f .total, f .held .dropped, f .held .numbers))
+
+wide-told : (ws ts : List ℕ) (n : ℕ) (out : List ℤ) → length ws ≡ recordWords → length out ≡ 3 → agreed ws ts ≡ true → largestNumber < n → tellsAvailability ws ts n out .number ≡ 13
+unfolding tellsAvailability availabilityTells
+wide-told ws ts n out l m a w =
+    told-number ws 3 (availabilityTells (availabilityIn (recordOf ws) ts (record { 0 = n }))) out l m ∙
+    ap (λ t. availabilityTells (cond t (numberAvailability (recordOf ws .head) (keptNumber (recordOf ws) ts n)) (availability.Refused refusal.Disagreement)) out .number) a ∙
+    ap (λ x. availabilityTells (numberAvailability (recordOf ws .head) x) out .number) (wide-missing (recordOf ws) ts n a w)
+
+pub binding : Binding
+binding =
+    record {
+      opening = opening-agreed;
+      append = append-agreed;
+      append-stamp = stamp-agreed;
+      trim = trim-agreed;
+      read = read-agreed;
+      touching = touching-told;
+      wide-number = wide-told;
+    }

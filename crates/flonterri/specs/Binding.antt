@@ -1,0 +1,40 @@
+-- What a binding of another language may rely on, so that each of its timelines agrees. An accepted call that changes, and an accepted reading,
+-- leave a record and a table that agree. Whether words agree is told by a call that only looks: asked for the runs that touch tick 0, it is
+-- refused for disagreement and for nothing else. And a number that is wider than a reference's can be is not kept.
+-- Paper: Record and table; Refusal numbers, 2 and 13.
+use Prim.Native.Nat.{ℕ, _≤_, _<_}
+use mathlib.Core.Path.{_≡_}
+use mathlib.Core.Bool.{Bool, true, cond}
+use mathlib.Core.List.{List}
+use lib.IntN.{ℤ}
+use lib.ListN.{length}
+use Rattle.units.specs.Limits.{largestSpan, largestNumber}
+use Rattle.agreement.specs.Agreement.{agrees}
+use Rattle.flonterri.specs.Words.{recordWords, recordOf}
+use Rattle.flonterri.specs.Face.{Changes, opens, appends, appendsStamp, trims, tellsTouching, tellsAvailability, reads}
+
+-- whether the record that words mean agrees with a table
+abbrev pub agreed : List ℕ → List ℕ → Bool
+agreed ws ts = agrees (recordOf ws) ts
+
+-- accepted, a call leaves words that agree
+abbrev pub LeavesAgreed : Changes → Type 0
+LeavesAgreed x = x .number ≡ 0 → agreed (x .words) (x .table) ≡ true
+
+pub record Binding : Type 0 where
+  -- opening, of any head fields and first tick
+  pub opening : (ws ts : List ℕ) (timescale offset start duration depth first tick : ℕ) →
+      LeavesAgreed (opens ws ts timescale offset start duration depth first tick)
+  -- appends, by full tick and by stamp; a duration is one of 32 bits, as its type says
+  pub append : (ws ts : List ℕ) (start d n : ℕ) → d ≤ largestSpan → LeavesAgreed (appends ws ts start d n)
+  pub append-stamp : (ws ts : List ℕ) (stamp d n : ℕ) → d ≤ largestSpan → LeavesAgreed (appendsStamp ws ts stamp d n)
+  -- trim
+  pub trim : (ws ts : List ℕ) (c : ℕ) → LeavesAgreed (trims ws ts c)
+  -- reading, of any bytes
+  pub read : (bytes ws ts out : List ℕ) → reads bytes ws ts out .number ≡ 0 → agreed (reads bytes ws ts out .words) (reads bytes ws ts out .table) ≡ true
+  -- the runs that touch the ticks from 0 up to 1: 0 where record and table agree, else 2
+  pub touching : (ws ts out : List ℕ) → length ws ≡ recordWords → length out ≡ 2 →
+      tellsTouching ws ts 0 1 out .number ≡ cond (agreed ws ts) 0 2
+  -- a number over 2^32 - 1 is 13
+  pub wide-number : (ws ts : List ℕ) (n : ℕ) (out : List ℤ) → length ws ≡ recordWords → length out ≡ 3 → agreed ws ts ≡ true → largestNumber < n →
+      tellsAvailability ws ts n out .number ≡ 13
