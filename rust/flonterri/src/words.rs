@@ -31,7 +31,7 @@ pub const TOUCHING_WORDS: usize = 2;
 /// Words of the `out` of [`read`]: the refused line.
 pub const READ_WORDS: usize = 1;
 
-/// Words of the `out` of [`write`]: the length.
+/// Words of the `out` of [`write()`]: the length.
 pub const WRITE_WORDS: usize = 1;
 
 /// Where each word of a record stands.
