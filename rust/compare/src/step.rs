@@ -1,6 +1,6 @@
 //! One call with its arguments and the memory lent to it, and what it answers.
 
-use flonterri::words::RECORD_WORDS;
+use flonterri::words::{self, RECORD_WORDS};
 
 use crate::face::Face;
 use crate::opening::Opening;
@@ -62,11 +62,12 @@ impl Call {
     /// How many words the call's `out` should have.
     pub fn out_words(&self) -> usize {
         match self {
-            Call::Verdict { .. } | Call::VerdictWhole => 5,
-            Call::Availability { .. } => 3,
-            Call::Touching { .. } => 2,
-            Call::Read { .. } | Call::Write { .. } => 1,
-            _ => 0,
+            Call::Verdict { .. } | Call::VerdictWhole => words::VERDICT_WORDS,
+            Call::Availability { .. } => words::AVAILABILITY_WORDS,
+            Call::Touching { .. } => words::TOUCHING_WORDS,
+            Call::Read { .. } => words::READ_WORDS,
+            Call::Write { .. } => words::WRITE_WORDS,
+            Call::Open(_) | Call::Append { .. } | Call::AppendStamp { .. } | Call::Trim { .. } => 0,
         }
     }
 }
