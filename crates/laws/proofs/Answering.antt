@@ -4,15 +4,13 @@ use mathlib.Core.Bool.{Bool, true, false, cond, not}
 use mathlib.Core.List.{List, [], _∷_}
 use Prim.Native.Nat.{ℕ, _+_, _≤_}
 use native.Mathlib.Omega.{arith}
-use borrow.Author.Tests.{eqb-true, eqb-false}
+use borrow.Author.Tests.{eqb-true}
 use lib.Dec.{eqb}
 use lib.IntN.{ℤ}
 use lib.ListN.{length}
 use Rattle.units.proofs.Choice.{chosen, passed-over}
 use Rattle.agreement.specs.declared.Record.{Record}
-use Rattle.agreement.specs.declared.refusal.Refusal.{Refusal}
 use Rattle.agreement.specs.declared.refusal.Refusal.the-variants as refusal
-use Rattle.agreement.specs.Numbers.{refusalNumber}
 use Rattle.keeping.specs.declared.Outcome.{Outcome}
 use Rattle.keeping.specs.declared.Outcome.the-variants.{Accepted, Refused}
 use Rattle.keeping.specs.declared.Changed.{Changed}
@@ -42,6 +40,7 @@ use Rattle.flonterri.specs.Tells.{Tells, verdictTells, availabilityTells, touch
 use Rattle.flonterri.specs.Face.{wrongRecord, wrongLength, guarded, changes, tells, readsBy, reads, writesBy, Changes as Seen, Reads as Readings, Writes as Wrote}
 use Rattle.flonterri.proofs.Refusing.{read-refused}
 use Rattle.flonterri.proofs.Lengths.{both-right, behind}
+use Rattle.flonterri.proofs.Binding.{refusal-some}
 use Rattle.laws.specs.Refusals.{lowest}
 use Rattle.laws.specs.Demand1.{Numbered, Changes, Only, Zeroes, Reads, Feeds, Finishes, recordRows, lengthRows, ChangesFromC, TellsC, ReadsFromC}
 use Rattle.laws.proofs.Reading.{reading-right}
@@ -90,28 +89,6 @@ write-leaves (written.Refused why) bytes out k = refl
 
 -- ---- readings
 
--- no refusal has the number 0
-refusal-some : (why : Refusal) → eqb (refusalNumber why) 0 ≡ false
-refusal-some refusal.OverLimit = refl
-refusal-some refusal.Disagreement = refl
-refusal-some refusal.NothingGiven = refl
-refusal-some refusal.Gap = refl
-refusal-some refusal.Overlap = refl
-refusal-some refusal.TickLimit = refl
-refusal-some refusal.CountLimit = refl
-refusal-some refusal.PastEnd = refl
-refusal-some refusal.NoRunLeft = refl
-refusal-some refusal.ClockLimit = refl
-refusal-some refusal.EarlierClock = refl
-refusal-some refusal.NothingKept = refl
-refusal-some refusal.NotKept = refl
-refusal-some refusal.EmptySpan = refl
-refusal-some refusal.ShortOutput = refl
-refusal-some refusal.BadLine = refl
-refusal-some refusal.BadOrder = refl
-refusal-some refusal.NoEndToReach = refl
-refusal-some refusal.EndUnknown = refl
-
 -- by its outcome, from a reading that has come so far
 pub answered : (o : Outcome) (r : Reading) (new before : List ℕ) (x : ReadAnswer) (after : List ℕ) → x ≡ answeredBy o r → after ≡ wordsBy o new (zeroed before) → Zeroes x after before
 unfolding wordsBy
@@ -119,7 +96,7 @@ answered Accepted r new before x after e f =
     record { accepted = λ k. ap (λ y. y .line) e; refused = λ k. absurd (k (ap (λ y. outcomeNumber (y .outcome)) e)) }
 answered (Refused why) r new before x after e f =
     record {
-      accepted = λ k. absurd (eqb-false (refusalNumber why) 0 (refusal-some why) (sym (ap (λ y. outcomeNumber (y .outcome)) e) ∙ k));
+      accepted = λ k. absurd (refusal-some why (sym (ap (λ y. outcomeNumber (y .outcome)) e) ∙ k));
       refused = λ k. (ap (λ y. y .rec) e, some (r .lines) (x .line) (ap (λ y. y .line) e), f);
     }
   where
