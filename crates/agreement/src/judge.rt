@@ -9,6 +9,7 @@ use crate::Record;
 use crate::scan::scan;
 use crate::scan::zeros_from;
 use units::Number;
+use units::WideTick;
 use window::Passed;
 use window::Reference;
 
@@ -26,12 +27,12 @@ pub fn counts_held(first: Number, accepted: u64) -> bool
 }
 
 // Whether an end is among those that are passed.
-pub fn is_reached(passed: Passed, end: u64) -> bool
-    ensures { λ r. ⌜ r ≡ reached passed end ⌝ }
+pub fn is_reached(passed: Passed, end: WideTick) -> bool
+    ensures { λ r. ⌜ r ≡ reached passed (end .0) ⌝ }
 {
     match passed {
         Passed::All => true,
-        Passed::Upto(t) => end <= t.0,
+        Passed::Upto(t) => end.0 <= t.0,
     }
 }
 
@@ -60,7 +61,8 @@ impl Record {
             return false;
         }
         let passed = self.head.passed_ends(self.clock);
-        if is_reached(passed, first.start.0 + first.span.0) {
+        let end = WideTick(first.start.0 + first.span.0);
+        if is_reached(passed, end) {
             return false;
         }
         self.head.before_end(last.start)

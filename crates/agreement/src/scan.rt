@@ -29,11 +29,11 @@ fn run_held(run: Run) -> bool
 }
 
 // Inner: the end of a run that is held.
-fn run_end(run: Run) -> u64
+fn run_end(run: Run) -> Tick
     requires { ⌜ runHeld run ≡ true ⌝ }
-    ensures { λ r. ⌜ r ≡ runEnd run ⌝ }
+    ensures { λ r. ⌜ r .0 ≡ runEnd run ⌝ }
 {
-    run.start.0 + run.span.0 * run.count
+    Tick(run.start.0 + run.span.0 * run.count)
 }
 
 // Inner: whether a run begins where a held one ends, with another duration.
@@ -41,7 +41,8 @@ fn run_joins(last: Run, run: Run) -> bool
     requires { ⌜ runHeld last ≡ true ⌝ }
     ensures { λ r. ⌜ r ≡ joins last run ⌝ }
 {
-    if run_end(last) != run.start.0 {
+    let end = run_end(last);
+    if end.0 != run.start.0 {
         return false;
     }
     last.span.0 != run.span.0

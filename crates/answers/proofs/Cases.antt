@@ -6,8 +6,8 @@ use mathlib.Core.List.{List}
 use Prim.Native.Nat.{ℕ, _≤_}
 use borrow.Author.Tests.{eqb-true, eqb-false, eq-eqb, ne-eqb}
 use lib.Dec.{eqb, leb}
-use Rattle.units.specs.declared.Millis.{Millis}
-use Rattle.units.specs.Limits.{millisHeld}
+use Rattle.units.specs.declared.WideMillis.{WideMillis}
+use Rattle.units.specs.Limits.{clockHeld}
 use Rattle.window.specs.Place.{endKnown}
 use Rattle.window.specs.Window.{windowAt, wholePeriod}
 use Rattle.agreement.specs.declared.Record.{Record}
@@ -41,25 +41,25 @@ module _ (n c l : ℕ) where
 -- ---- by what was asked: it is refused, or it is that of its window
 
 module _ (rec : Record) (ws : List ℕ) where
-  module _ (c : Millis) where
+  module _ (c : WideMillis) where
     judgedAt : Bool → Bool → Bool → Verdict
     judgedAt s t u =
         cond s (cond t (cond u (verdictOf (rec .head) (windowAt (rec .head) (c .0)) (kept rec ws)) (Refused EarlierClock)) (Refused ClockLimit)) (Refused Disagreement)
 
-    pub asked-at : agrees rec ws ≡ true → millisHeld c ≡ true → leb (rec .clock .0) (c .0) ≡ true →
+    pub asked-at : agrees rec ws ≡ true → clockHeld c ≡ true → leb (rec .clock .0) (c .0) ≡ true →
         verdictAt rec ws c ≡ verdictOf (rec .head) (windowAt (rec .head) (c .0)) (kept rec ws)
     unfolding judgedAt
-    asked-at a m l = ap (λ s. judgedAt s (millisHeld c) (leb (rec .clock .0) (c .0))) a ∙ ap₂ (judgedAt true) m l
+    asked-at a m l = ap (λ s. judgedAt s (clockHeld c) (leb (rec .clock .0) (c .0))) a ∙ ap₂ (judgedAt true) m l
 
     pub by-asked-at : (A : Verdict → Type 0) → (agrees rec ws ≡ false → A (Refused Disagreement)) →
-        (agrees rec ws ≡ true → millisHeld c ≡ false → A (Refused ClockLimit)) →
-        (agrees rec ws ≡ true → millisHeld c ≡ true → leb (rec .clock .0) (c .0) ≡ false → A (Refused EarlierClock)) →
-        (agrees rec ws ≡ true → millisHeld c ≡ true → leb (rec .clock .0) (c .0) ≡ true → A (verdictOf (rec .head) (windowAt (rec .head) (c .0)) (kept rec ws))) →
+        (agrees rec ws ≡ true → clockHeld c ≡ false → A (Refused ClockLimit)) →
+        (agrees rec ws ≡ true → clockHeld c ≡ true → leb (rec .clock .0) (c .0) ≡ false → A (Refused EarlierClock)) →
+        (agrees rec ws ≡ true → clockHeld c ≡ true → leb (rec .clock .0) (c .0) ≡ true → A (verdictOf (rec .head) (windowAt (rec .head) (c .0)) (kept rec ws))) →
         A (verdictAt rec ws c)
     unfolding judgedAt
-    by-asked-at A disagree over early asked = go (agrees rec ws) refl (millisHeld c) refl (leb (rec .clock .0) (c .0)) refl
+    by-asked-at A disagree over early asked = go (agrees rec ws) refl (clockHeld c) refl (leb (rec .clock .0) (c .0)) refl
       where
-        go : (s : Bool) → agrees rec ws ≡ s → (t : Bool) → millisHeld c ≡ t → (u : Bool) → leb (rec .clock .0) (c .0) ≡ u → A (judgedAt s t u)
+        go : (s : Bool) → agrees rec ws ≡ s → (t : Bool) → clockHeld c ≡ t → (u : Bool) → leb (rec .clock .0) (c .0) ≡ u → A (judgedAt s t u)
         go true a true m true l = asked a m l
         go true a true m false l = early a m l
         go true a false m u l = over a m

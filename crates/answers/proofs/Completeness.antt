@@ -9,8 +9,8 @@ use native.Mathlib.Omega.{arith}
 use borrow.Author.Tests.{eq-eqb, ne-eqb, not-true}
 use lib.Dec.{eqb, leb}
 use Rattle.units.specs.Exactly.{Exactly}
-use Rattle.units.specs.Limits.{millisHeld}
-use Rattle.units.specs.declared.Millis.{Millis}
+use Rattle.units.specs.Limits.{clockHeld}
+use Rattle.units.specs.declared.WideMillis.{WideMillis}
 use Rattle.units.specs.declared.WideTick.{WideTick}
 use Rattle.window.specs.declared.Head.{Head}
 use Rattle.window.specs.declared.Reference.{Reference}
@@ -56,16 +56,16 @@ module _ (h : Head) (w : Stretch) (rs : List Reference) where
           (count-all (tickNeeded h w) (coveredBy rs) (beyond h w) (q .each)))
 
 -- the same of the answers: a refused call is not complete
-pub complete-at : (rec : Record) (ws : List ℕ) (c : Millis) →
+pub complete-at : (rec : Record) (ws : List ℕ) (c : WideMillis) →
     Exactly (complete (verdictAt rec ws c))
-    ((agrees rec ws ≡ true) × (millisHeld c ≡ true) × (leb (rec .clock .0) (c .0) ≡ true) × Whole (rec .head) (windowAt (rec .head) (c .0)) (kept rec ws))
+    ((agrees rec ws ≡ true) × (clockHeld c ≡ true) × (leb (rec .clock .0) (c .0) ≡ true) × Whole (rec .head) (windowAt (rec .head) (c .0)) (kept rec ws))
 complete-at rec ws c = record { only = only; if = if }
   where
     here : Exactly (complete (verdictOf (rec .head) (windowAt (rec .head) (c .0)) (kept rec ws))) (Whole (rec .head) (windowAt (rec .head) (c .0)) (kept rec ws))
     here = complete-exactly (rec .head) (windowAt (rec .head) (c .0)) (kept rec ws)
 
     Asked : Type 0
-    Asked = (agrees rec ws ≡ true) × (millisHeld c ≡ true) × (leb (rec .clock .0) (c .0) ≡ true) × Whole (rec .head) (windowAt (rec .head) (c .0)) (kept rec ws)
+    Asked = (agrees rec ws ≡ true) × (clockHeld c ≡ true) × (leb (rec .clock .0) (c .0) ≡ true) × Whole (rec .head) (windowAt (rec .head) (c .0)) (kept rec ws)
 
     only : complete (verdictAt rec ws c) ≡ true → Asked
     only =
@@ -107,13 +107,13 @@ judged-percent : (n c l : ℕ) → c ≤ n → hundred (verdictPercent (judged n
 judged-percent n c l m =
     by-count n c l (λ v. hundred (verdictPercent v) ≡ complete v) (λ z. refl)
     (λ some e. ap hundred (sym (some-percent n n (apart n some) (n * 100 / n) (omega arith) refl)) ∙ eq-eqb (n * 100 / n) 100 (mul-div-cancel-left 100 some))
-    (λ some o. ap hundred (sym (some-percent c n (apart n some) (c * 100 / n) m refl)) ∙ short-percent c n (omega arith))
+    (λ some o. ap hundred (sym (some-percent n c (apart n some) (c * 100 / n) m refl)) ∙ short-percent c n (omega arith))
 
 module _ (h : Head) (w : Stretch) (rs : List Reference) where
   percent-of : hundred (verdictPercent (verdictOf h w rs)) ≡ complete (verdictOf h w rs)
   percent-of = judged-percent (neededCount h w) (coveredCount h w rs) (lowestLacking h w rs) (count-less (tickNeeded h w) (coveredBy rs) (beyond h w))
 
-pub percent-at : (rec : Record) (ws : List ℕ) (c : Millis) → hundred (verdictPercent (verdictAt rec ws c)) ≡ complete (verdictAt rec ws c)
+pub percent-at : (rec : Record) (ws : List ℕ) (c : WideMillis) → hundred (verdictPercent (verdictAt rec ws c)) ≡ complete (verdictAt rec ws c)
 percent-at rec ws c =
     by-asked-at rec ws c (λ v. hundred (verdictPercent v) ≡ complete v) (λ a. refl) (λ a m. refl) (λ a m l. refl)
     (λ a m l. percent-of (rec .head) (windowAt (rec .head) (c .0)) (kept rec ws))

@@ -1,15 +1,20 @@
 -- References by their numbers: a number is found run by run, and a difference of numbers is a place in the list.
 use mathlib.Core.Path.{_≡_, refl, sym, ap, ap₂, subst⁻¹, _∙_}
 use mathlib.Core.Bool.{Bool, true, false, cond}
-use mathlib.Core.List.{List, [], _∷_, _++_}
+use mathlib.Core.List.{List, [], _∷_, _++_, append-nil}
 use Prim.Native.Nat.{ℕ, zero, suc, _+_, _-_, _*_, _≤_, _<_}
 use native.Mathlib.Nat.{add-zero, add-suc, sub-zero}
 use native.Mathlib.Omega.{arith}
-use borrow.Author.Tests.{eqb-true, eqb-false, eq-eqb, ne-eqb}
+use borrow.Author.Tests.{eqb-true, eqb-false, eq-eqb, ne-eqb, leb-false}
 use lib.Dec.{eqb}
 use lib.ListN.{length, drop}
 use mir.Syntax.{w64}
 use mir.Val.{Fits}
+use Rattle.units.specs.declared.Number.{Number}
+use Rattle.units.specs.declared.NumberMade.{NumberMade}
+use Rattle.units.specs.declared.NumberMade.the-variants as number
+use Rattle.units.specs.Limits.{largestNumber, numberMade}
+use Rattle.units.proofs.Makers.{numbers}
 use Rattle.window.specs.declared.Reference.{Reference}
 use Rattle.window.specs.References.{Each}
 use Rattle.runs.specs.declared.Run.{Run}
@@ -164,6 +169,20 @@ module _ (rec : Record) (ws : List ℕ) (a : agrees rec ws ≡ true) where
 
   pub number-under : (n : ℕ) → n < rec .head .first .0 + rec .dropped → Missing ≡ keptNumber rec ws n
   number-under n l = sym (under (rec .head .first .0 + rec .dropped) n (kept rec ws) l)
+
+  -- a number beyond the limit lies past the last kept one
+  pub number-over : (n : ℕ) (m : NumberMade) → m ≡ numberMade n → m ≡ number.Refused → Missing ≡ keptNumber rec ws n
+  unfolding numbered
+  number-over n m e k =
+      let first : ℕ = rec .head .first .0 + rec .dropped in
+      let facts = agreeing rec ws a in
+      let over : largestNumber < n = leb-false n largestNumber (numbers .beyond n m e k) in
+      sym
+      (ap (λ rs. numbered first rs n) (sym (append-nil (kept rec ws))) ∙
+      after first n (kept rec ws) [] (omega (arith, facts .total, facts .held .dropped, facts .held .numbers)))
+
+  pub number-asked : (n : ℕ) (m : NumberMade) (asked : Number) (x : Numbered) → m ≡ numberMade n → m ≡ number.Made asked → x ≡ keptNumber rec ws (asked .0) → x ≡ keptNumber rec ws n
+  number-asked n m asked x e k f = f ∙ ap (λ (y : Number). keptNumber rec ws (y .0)) (numbers .is n m asked e k)
 
   pub number-found : (n : ℕ) (x : Numbered) → rec .head .first .0 + rec .dropped ≤ n → x ≡ numbered 0 (kept rec ws) (n - (rec .head .first .0 + rec .dropped)) → x ≡ keptNumber rec ws n
   number-found n x l e =

@@ -9,9 +9,9 @@ use mathlib.Core.List.{List, [], _∷_}
 use lib.Dec.{eqb}
 use lib.IntN.{ℤ, pos, _+ℤ_}
 use lib.Signed.{leZ, ltZ}
-use Rattle.units.specs.declared.Millis.{Millis}
-use Rattle.units.specs.declared.Number.{Number}
-use Rattle.units.specs.Limits.{millisHeld}
+use Rattle.units.specs.declared.WideMillis.{WideMillis}
+use Rattle.units.specs.declared.WideNumber.{WideNumber}
+use Rattle.units.specs.Limits.{clockHeld}
 use Rattle.window.specs.declared.Head.{Head}
 use Rattle.window.specs.declared.Reference.{Reference}
 use Rattle.window.specs.Place.{place}
@@ -63,12 +63,12 @@ abbrev pub numberAvailable : Head → ℕ → Numbered → AvailableAt
 numberAvailable h c Missing = at.Refused NotKept
 numberAvailable h c (Kept r) = cond (available h r c) at.Yes at.No
 
-abbrev pub availabilityIn : Record → List ℕ → Number → Availability
+abbrev pub availabilityIn : Record → List ℕ → WideNumber → Availability
 availabilityIn rec ws n =
     cond (agrees rec ws) (numberAvailability (rec .head) (keptNumber rec ws (n .0))) (answer.Refused Disagreement)
 
-abbrev pub availableIn : Record → List ℕ → Number → Millis → AvailableAt
+abbrev pub availableIn : Record → List ℕ → WideNumber → WideMillis → AvailableAt
 availableIn rec ws n c =
     cond (agrees rec ws)
-    (cond (millisHeld c) (numberAvailable (rec .head) (c .0) (keptNumber rec ws (n .0))) (at.Refused ClockLimit))
+    (cond (clockHeld c) (numberAvailable (rec .head) (c .0) (keptNumber rec ws (n .0))) (at.Refused ClockLimit))
     (at.Refused Disagreement)

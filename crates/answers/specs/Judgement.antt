@@ -6,8 +6,8 @@ use mathlib.Core.Path.{_≡_}
 use mathlib.Core.Bool.{Bool, true, false, cond}
 use mathlib.Core.List.{List}
 use lib.Dec.{eqb, leb}
-use Rattle.units.specs.declared.Millis.{Millis}
-use Rattle.units.specs.Limits.{millisHeld}
+use Rattle.units.specs.declared.WideMillis.{WideMillis}
+use Rattle.units.specs.Limits.{clockHeld}
 use Rattle.window.specs.declared.Head.{Head}
 use Rattle.window.specs.declared.Reference.{Reference}
 use Rattle.window.specs.Place.{endKnown}
@@ -28,10 +28,10 @@ judged needed covered lowest =
 abbrev pub verdictOf : Head → Stretch → List Reference → Verdict
 verdictOf h w rs = judged (neededCount h w) (coveredCount h w rs) (lowestLacking h w rs)
 
-abbrev pub verdictAt : Record → List ℕ → Millis → Verdict
+abbrev pub verdictAt : Record → List ℕ → WideMillis → Verdict
 verdictAt rec ws c =
     cond (agrees rec ws)
-    (cond (millisHeld c)
+    (cond (clockHeld c)
     (cond (leb (rec .clock .0) (c .0)) (verdictOf (rec .head) (windowAt (rec .head) (c .0)) (kept rec ws)) (Refused EarlierClock))
     (Refused ClockLimit))
     (Refused Disagreement)

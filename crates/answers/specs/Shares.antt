@@ -9,13 +9,13 @@ use Rattle.answers.specs.declared.Percent.{Percent}
 use Rattle.answers.specs.declared.Percent.the-variants.{Of, Undefined}
 
 abbrev pub percentOf : ℕ → ℕ → Percent
-percentOf covered needed = cond (eqb needed 0) Undefined (cond (leb covered needed) (Of (covered * 100 / needed)) Undefined)
+percentOf needed covered = cond (eqb needed 0) Undefined (cond (leb covered needed) (Of (covered * 100 / needed)) Undefined)
 
 -- the percent of a verdict, whoever made it
 abbrev pub verdictPercent : Verdict → Percent
 verdictPercent Nothing = Undefined
 verdictPercent (Complete needed) = percentOf needed needed
-verdictPercent (Lacking needed covered lowest) = percentOf covered needed
+verdictPercent (Lacking needed covered lowest) = percentOf needed covered
 verdictPercent (Refused r) = Undefined
 
 -- as a number: what has no percent shows 0

@@ -1,5 +1,7 @@
 // The calls that look: what is needed and covered, when a reference is available, which runs touch
 // a span. None of them changes a word.
+ghost use mathlib.Core.Path.{_≡_};
+ghost use Rattle.answers.specs.Numbers.{verdictNumber, availabilityNumber, availableNumber, touchingNumber};
 use agreement::Refusal;
 use units::Grain;
 use units::WideTick;
@@ -49,4 +51,56 @@ pub enum Numbered {
 pub enum Touching {
     Words(usize, usize),
     Refused(Refusal),
+}
+
+impl Verdict {
+    // The paper's number, 0 where the verdict is not refused.
+    pub fn number(self) -> u32
+        ensures { λ r. ⌜ r ≡ verdictNumber self ⌝ }
+    {
+        match self {
+            Verdict::Nothing => 0,
+            Verdict::Complete(_) => 0,
+            Verdict::Lacking(_, _, _) => 0,
+            Verdict::Refused(why) => why.number(),
+        }
+    }
+}
+
+impl Availability {
+    // The paper's number, 0 where the call is not refused.
+    pub fn number(self) -> u32
+        ensures { λ r. ⌜ r ≡ availabilityNumber self ⌝ }
+    {
+        match self {
+            Availability::Ends(_, _) => 0,
+            Availability::NeverEnds(_) => 0,
+            Availability::Refused(why) => why.number(),
+        }
+    }
+}
+
+impl AvailableAt {
+    // The paper's number, 0 where the call is not refused.
+    pub fn number(self) -> u32
+        ensures { λ r. ⌜ r ≡ availableNumber self ⌝ }
+    {
+        match self {
+            AvailableAt::Yes => 0,
+            AvailableAt::No => 0,
+            AvailableAt::Refused(why) => why.number(),
+        }
+    }
+}
+
+impl Touching {
+    // The paper's number, 0 where the call is not refused.
+    pub fn number(self) -> u32
+        ensures { λ r. ⌜ r ≡ touchingNumber self ⌝ }
+    {
+        match self {
+            Touching::Words(_, _) => 0,
+            Touching::Refused(why) => why.number(),
+        }
+    }
 }

@@ -11,7 +11,9 @@ use crate::Numbered;
 use agreement::Record;
 use runs::Run;
 use units::Number;
+use units::NumberMade;
 use units::Tick;
+use units::WideNumber;
 use window::Reference;
 
 // Inner, since the run must be held and have more than n: the reference behind its first n.
@@ -45,7 +47,7 @@ fn nth(table: &[u64], used: usize, n: u64) -> Numbered
 }
 
 // Inner, since record and table must agree: the kept reference of a number.
-pub(crate) fn kept_number(rec: Record, table: &[u64], number: Number) -> Numbered
+fn kept_number(rec: Record, table: &[u64], number: Number) -> Numbered
     requires { ⌜ agrees rec (now table) ≡ true ⌝ }
     ensures { λ r. ⌜ r ≡ keptNumber rec (now (table .entry)) (number .0) ⌝ }
 {
@@ -54,4 +56,16 @@ pub(crate) fn kept_number(rec: Record, table: &[u64], number: Number) -> Numbere
         return Numbered::Missing;
     }
     nth(table, rec.used, number.0 - first)
+}
+
+// Inner, since record and table must agree: the kept reference of any number. One beyond the limit is
+// none that is kept.
+pub(crate) fn asked_number(rec: Record, table: &[u64], number: WideNumber) -> Numbered
+    requires { ⌜ agrees rec (now table) ≡ true ⌝ }
+    ensures { λ r. ⌜ r ≡ keptNumber rec (now (table .entry)) (number .0) ⌝ }
+{
+    let NumberMade::Made(asked) = Number::new(number.0) else {
+        return Numbered::Missing;
+    };
+    kept_number(rec, table, asked)
 }

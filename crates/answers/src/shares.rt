@@ -7,7 +7,7 @@ use crate::Verdict;
 
 // Inner, since no more may be covered than needed: covered x 100 / needed. The product may pass 64
 // bits, so covered is added a hundred times, and needed is taken off whenever it is reached.
-fn hundredths(covered: u64, needed: u64) -> u64
+fn hundredths(needed: u64, covered: u64) -> u64
     requires { ⌜ (0 < needed) × (covered ≤ needed) ⌝ }
     ensures { λ r. ⌜ r ≡ covered * 100 / needed ⌝ }
 {
@@ -28,8 +28,8 @@ fn hundredths(covered: u64, needed: u64) -> u64
 }
 
 // The percent of any two counts: none where nothing is needed, or less than is covered.
-pub fn percent(covered: u64, needed: u64) -> Percent
-    ensures { λ r. ⌜ r ≡ percentOf covered needed ⌝ }
+pub fn percent(needed: u64, covered: u64) -> Percent
+    ensures { λ r. ⌜ r ≡ percentOf needed covered ⌝ }
 {
     if needed == 0 {
         return Percent::Undefined;
@@ -37,7 +37,7 @@ pub fn percent(covered: u64, needed: u64) -> Percent
     if needed < covered {
         return Percent::Undefined;
     }
-    Percent::Of(hundredths(covered, needed))
+    Percent::Of(hundredths(needed, covered))
 }
 
 impl Verdict {
@@ -48,7 +48,7 @@ impl Verdict {
         match self {
             Verdict::Nothing => Percent::Undefined,
             Verdict::Complete(needed) => percent(needed, needed),
-            Verdict::Lacking(needed, covered, _) => percent(covered, needed),
+            Verdict::Lacking(needed, covered, _) => percent(needed, covered),
             Verdict::Refused(_) => Percent::Undefined,
         }
     }

@@ -11,15 +11,17 @@ ghost use Rattle.answers.specs.Steps.{FoundWithin, Begins, Stops};
 use crate::Availability;
 use crate::AvailableAt;
 use crate::Numbered;
-use crate::numbers::kept_number;
+use crate::numbers::asked_number;
 use agreement::Record;
 use agreement::Refusal;
 use units::Grain;
 use units::GrainMade;
 use units::Grains;
 use units::Millis;
-use units::Number;
+use units::MillisMade;
 use units::Tick;
+use units::WideMillis;
+use units::WideNumber;
 use window::Head;
 use window::Reference;
 
@@ -28,7 +30,7 @@ fn signed(from: Grains, to: Grains) -> Grain
     requires { ⌜ (from .0 ≤ largestGrain) × (to .0 ≤ largestGrain) ⌝ }
     ensures { λ r. ⌜ r .0 ≡ pos (to .0) -ℤ pos (from .0) ⌝ }
 {
-    match Grain::between(from.0, to.0) {
+    match Grain::between(from, to) {
         GrainMade::Made(made) => made,
         GrainMade::Refused => Grain(0),
     }
@@ -52,8 +54,8 @@ fn stops(head: Head, at: Reference) -> Grains
 {
     let from = begins(head, at);
     let depth = head.depth.grains(head.timescale);
-    let lasts = at.span.0 * 1000;
-    Grains(from.0 + depth.0 + lasts)
+    let lasts = at.span.grains();
+    Grains(from.0 + depth.0 + lasts.0)
 }
 
 // Inner, since the limits must be held: when one reference is available.
@@ -118,27 +120,32 @@ fn found_available(head: Head, found: Numbered, clock: Millis) -> AvailableAt
 }
 
 // When the reference of a number is available, for any record, any words and any number.
-pub fn availability(rec: Record, table: &[u64], number: Number) -> Availability
+pub fn availability(rec: Record, table: &[u64], number: WideNumber) -> Availability
     ensures { λ r. ⌜ r ≡ availabilityIn rec (now (table .entry)) number ⌝ }
 {
     if !rec.agrees(table) {
         return Availability::Refused(Refusal::Disagreement);
     }
-    let found = kept_number(rec, table, number);
+    let found = asked_number(rec, table, number);
     found_availability(rec.head, found)
 }
 
 // Whether the reference of a number is available at a clock, for any record, any words, any number
 // and any clock.
-pub fn available_at(rec: Record, table: &[u64], number: Number, clock: Millis) -> AvailableAt
+pub fn available_at(
+    rec: Record,
+    table: &[u64],
+    number: WideNumber,
+    clock: WideMillis,
+) -> AvailableAt
     ensures { λ r. ⌜ r ≡ availableIn rec (now (table .entry)) number clock ⌝ }
 {
     if !rec.agrees(table) {
         return AvailableAt::Refused(Refusal::Disagreement);
     }
-    if !clock.held() {
+    let MillisMade::Made(at) = Millis::new(clock.0) else {
         return AvailableAt::Refused(Refusal::ClockLimit);
-    }
-    let found = kept_number(rec, table, number);
-    found_available(rec.head, found, clock)
+    };
+    let found = asked_number(rec, table, number);
+    found_available(rec.head, found, at)
 }

@@ -11,6 +11,8 @@ use crate::Verdict;
 use agreement::Record;
 use agreement::Refusal;
 use units::Millis;
+use units::MillisMade;
+use units::WideMillis;
 use units::WideTick;
 use window::Needed;
 
@@ -26,16 +28,16 @@ fn first_kept(rec: Record, table: &[u64]) -> WideTick
     WideTick(table[0])
 }
 
-fn larger(a: u64, b: u64) -> u64
-    ensures { λ r. ⌜ r ≡ max a b ⌝ }
+fn later(a: WideTick, b: WideTick) -> WideTick
+    ensures { λ r. ⌜ r .0 ≡ max (a .0) (b .0) ⌝ }
 {
-    if a < b { b } else { a }
+    if a.0 < b.0 { b } else { a }
 }
 
-fn smaller(a: u64, b: u64) -> u64
-    ensures { λ r. ⌜ r ≡ min a b ⌝ }
+fn earlier(a: WideTick, b: WideTick) -> WideTick
+    ensures { λ r. ⌜ r .0 ≡ min (a .0) (b .0) ⌝ }
 {
-    if a < b { a } else { b }
+    if a.0 < b.0 { a } else { b }
 }
 
 // Inner, since one tick at least must be needed: those from a up to b are, and those from `from` up
@@ -45,19 +47,19 @@ fn compare(a: WideTick, b: WideTick, from: WideTick, to: WideTick) -> Verdict
     ensures { λ r. ⌜ r ≡ verdictBy (inRange (a .0) (b .0)) (inRange (from .0) (to .0)) (b .0) ⌝ }
 {
     let needed = b.0 - a.0;
-    let low = larger(a.0, from.0);
-    let high = smaller(b.0, to.0);
-    if high <= low {
+    let low = later(a, from);
+    let high = earlier(b, to);
+    if high.0 <= low.0 {
         return Verdict::Lacking(needed, 0, a);
     }
-    let covered = high - low;
+    let covered = high.0 - low.0;
     if covered == needed {
         return Verdict::Complete(needed);
     }
-    if a.0 < low {
+    if a.0 < low.0 {
         return Verdict::Lacking(needed, covered, a);
     }
-    Verdict::Lacking(needed, covered, WideTick(high))
+    Verdict::Lacking(needed, covered, high)
 }
 
 // Inner, since an answer that names ticks must name one at least.
@@ -72,19 +74,19 @@ fn judge(needed: Needed, from: WideTick, to: WideTick) -> Verdict
 }
 
 // The verdict at a clock, for any record, any words and any clock.
-pub fn verdict(rec: Record, table: &[u64], clock: Millis) -> Verdict
+pub fn verdict(rec: Record, table: &[u64], clock: WideMillis) -> Verdict
     ensures { λ r. ⌜ r ≡ verdictAt rec (now (table .entry)) clock ⌝ }
 {
     if !rec.agrees(table) {
         return Verdict::Refused(Refusal::Disagreement);
     }
-    if !clock.held() {
+    let MillisMade::Made(at) = Millis::new(clock.0) else {
         return Verdict::Refused(Refusal::ClockLimit);
-    }
-    if clock.0 < rec.clock.0 {
+    };
+    if at.0 < rec.clock.0 {
         return Verdict::Refused(Refusal::EarlierClock);
     }
-    let needed = rec.head.needed_at(clock);
+    let needed = rec.head.needed_at(at);
     let from = first_kept(rec, table);
     judge(needed, from, WideTick(rec.next.0))
 }

@@ -7,8 +7,8 @@ use answers::AvailableAt;
 use answers::Touching;
 use answers::Verdict;
 use libc::STDOUT_FILENO;
-use units::Millis;
-use units::Number;
+use units::WideMillis;
+use units::WideNumber;
 use units::WideTick;
 
 fn row(number: u64, a: u64, b: u64, c: u64, d: u64, e: u64) {
@@ -22,28 +22,31 @@ fn row(number: u64, a: u64, b: u64, c: u64, d: u64, e: u64) {
 }
 
 fn put_verdict(verdict: Verdict) {
+    let number = verdict.number() as u64;
     let percent = verdict.percent().number();
     match verdict {
-        Verdict::Nothing => row(0, 0, 0, 0, 0, percent),
-        Verdict::Complete(n) => row(0, 1, n, n, 0, percent),
-        Verdict::Lacking(n, m, k) => row(0, 2, n, m, k.0, percent),
-        Verdict::Refused(why) => row(why.number() as u64, 0, 0, 0, 0, percent),
+        Verdict::Nothing => row(number, 0, 0, 0, 0, percent),
+        Verdict::Complete(n) => row(number, 1, n, n, 0, percent),
+        Verdict::Lacking(n, m, k) => row(number, 2, n, m, k.0, percent),
+        Verdict::Refused(_) => row(number, 0, 0, 0, 0, percent),
     }
 }
 
 // Whether it ends; its points are asked by `clock`, at the clocks around them.
 fn put_availability(availability: Availability) {
+    let number = availability.number() as u64;
     match availability {
-        Availability::Ends(_, _) => row(0, 1, 0, 0, 0, 0),
-        Availability::NeverEnds(_) => row(0, 0, 0, 0, 0, 0),
-        Availability::Refused(why) => row(why.number() as u64, 0, 0, 0, 0, 0),
+        Availability::Ends(_, _) => row(number, 1, 0, 0, 0, 0),
+        Availability::NeverEnds(_) => row(number, 0, 0, 0, 0, 0),
+        Availability::Refused(_) => row(number, 0, 0, 0, 0, 0),
     }
 }
 
 fn put_touching(touching: Touching, words: usize) {
+    let number = touching.number() as u64;
     match touching {
-        Touching::Words(from, to) => row(0, from as u64, to as u64, words as u64, 0, 0),
-        Touching::Refused(why) => row(why.number() as u64, 0, 0, words as u64, 0, 0),
+        Touching::Words(from, to) => row(number, from as u64, to as u64, words as u64, 0, 0),
+        Touching::Refused(_) => row(number, 0, 0, words as u64, 0, 0),
     }
 }
 
@@ -53,10 +56,11 @@ fn touch(rec: Record, table: &[u64], a: WideTick, b: WideTick) {
 }
 
 fn put_available(available: AvailableAt) {
+    let number = available.number() as u64;
     match available {
-        AvailableAt::Yes => row(0, 1, 0, 0, 0, 0),
-        AvailableAt::No => row(0, 0, 0, 0, 0, 0),
-        AvailableAt::Refused(why) => row(why.number() as u64, 0, 0, 0, 0, 0),
+        AvailableAt::Yes => row(number, 1, 0, 0, 0, 0),
+        AvailableAt::No => row(number, 0, 0, 0, 0, 0),
+        AvailableAt::Refused(_) => row(number, 0, 0, 0, 0, 0),
     }
 }
 
@@ -64,11 +68,11 @@ fn put_available(available: AvailableAt) {
 // whether a number is available at a clock.
 pub(crate) fn look(name: u8, rec: Record, table: &[u64], a: u64, b: u64) {
     match name {
-        b'v' => put_verdict(answers::verdicts::verdict(rec, table, Millis(a))),
+        b'v' => put_verdict(answers::verdicts::verdict(rec, table, WideMillis(a))),
         b'w' => put_verdict(answers::verdicts::verdict_whole(rec, table)),
-        b'n' => put_availability(answers::times::availability(rec, table, Number(a))),
+        b'n' => put_availability(answers::times::availability(rec, table, WideNumber(a))),
         b'r' => touch(rec, table, WideTick(a), WideTick(b)),
-        _ => put_available(answers::times::available_at(rec, table, Number(a), Millis(b))),
+        _ => put_available(answers::times::available_at(rec, table, WideNumber(a), WideMillis(b))),
     }
     io::write_all(STDOUT_FILENO, b"\n");
 }

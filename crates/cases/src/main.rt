@@ -5,13 +5,10 @@ use agreement::Record;
 use keeping::Changed;
 use libc::STDIN_FILENO;
 use libc::STDOUT_FILENO;
-use units::Millis;
-use units::Number;
 use units::Stamp;
-use units::Tick;
-use units::Timescale;
+use units::WideMillis;
 use units::WideTick;
-use window::Head;
+use window::HeadFields;
 
 mod look;
 mod show;
@@ -28,14 +25,14 @@ fn low(word: u64) -> u32 {
     (word % 4294967296) as u32
 }
 
-fn head(s: [u64; PLACES]) -> Head {
-    Head {
-        timescale: Timescale(s[1]),
-        offset: Tick(s[2]),
-        start: Millis(s[3]),
-        duration: Millis(s[4]),
-        depth: Millis(s[5]),
-        first: Number(s[6]),
+fn head(s: [u64; PLACES]) -> HeadFields {
+    HeadFields {
+        timescale: s[1],
+        offset: s[2],
+        start: s[3],
+        duration: s[4],
+        depth: s[5],
+        first: s[6],
     }
 }
 
@@ -48,7 +45,7 @@ fn changes(name: u8) -> bool {
 
 fn change(name: u8, rec: Record, table: &mut [u64], s: [u64; PLACES]) -> Changed {
     if name == b'o' {
-        return timeline::open(head(s), Tick(s[7]), table);
+        return timeline::open(head(s), WideTick(s[7]), table);
     }
     let at = s[1];
     let duration = low(s[2]);
@@ -56,7 +53,7 @@ fn change(name: u8, rec: Record, table: &mut [u64], s: [u64; PLACES]) -> Changed
     match name {
         b'a' => timeline::append(rec, table, WideTick(at), duration, count),
         b's' => timeline::append_stamp(rec, table, Stamp(low(at)), duration, count),
-        _ => timeline::trim(rec, table, Millis(at)),
+        _ => timeline::trim(rec, table, WideMillis(at)),
     }
 }
 

@@ -7,10 +7,11 @@ use native.Mathlib.Nat.{sub-zero}
 use native.Mathlib.Omega.{arith}
 use borrow.Author.Tests.{eq-eqb, ne-eqb, le-leb, lt-ltb}
 use lib.ListN.{length, getD, replicate, length-append}
-use Rattle.units.specs.Limits.{largestTick, largestSpan}
+use Rattle.units.specs.Limits.{largestTick, largestSpan, tickOf}
 use Rattle.units.specs.Standing.{tickStanding}
 use Rattle.units.specs.declared.standing.Standing.the-variants.{Joins}
 use Rattle.window.specs.declared.Head.{Head}
+use Rattle.window.specs.Limits.{fieldsOf}
 use Rattle.runs.specs.declared.Run.{Run}
 use Rattle.runs.specs.Words.{wordsOf, referencesOf}
 use Rattle.runs.specs.Shape.{runsShaped}
@@ -114,7 +115,7 @@ module _ (h : Head) (t words : ℕ) (xs : List Run) (x : Run) (ys : List Run) (k
       accepted-keeps (recordOf h t xs) (tableOf words xs) Joins (x .span .0) (x .count) small (step-accepted h t words xs x ys k a)
 
   run-taken : (st : Stage) (lines time : ℕ) →
-      takeS (record { stage = st; lines = lines; rec = recordOf h t xs }) (tableOf words xs) Joins (record { t = record { 0 = time }; d = x .span; r = x .count - 1 }) ≡
+      takeS (record { stage = st; lines = lines; rec = recordOf h t xs }) (tableOf words xs) Joins (record { t = record { 0 = time }; d = x .span .0; r = x .count - 1 }) ≡
       runsTaken h t words (xs ++ x ∷ []) Open (lines + 1)
   unfolding takeS settledReading wordsBy
   run-taken st lines time =
@@ -138,7 +139,7 @@ unfolding laterFrames onOpen
 later-taken h t words [] xs k a lines fs =
     ap₂ (λ (rs : List Run) (n : ℕ). takeFrames (runsTaken h t words rs Open n) fs) (sym (append-nil xs)) (omega arith)
 later-taken h t words (y ∷ ys) xs k a lines fs =
-    ap (λ st. takeFrames (takeS (record { stage = Open; lines = lines; rec = recordOf h t xs }) (tableOf words xs) st (record { t = record { 0 = absent }; d = y .span; r = y .count - 1 })) (laterFrames ys ++ fs))
+    ap (λ st. takeFrames (takeS (record { stage = Open; lines = lines; rec = recordOf h t xs }) (tableOf words xs) st (record { t = record { 0 = absent }; d = y .span .0; r = y .count - 1 })) (laterFrames ys ++ fs))
     (ap (λ b. cond b Joins (tickStanding (record { 0 = absent }) (recordOf h t xs .next))) (eq-eqb absent absent refl)) ∙
     ap (λ z. takeFrames z (laterFrames ys ++ fs)) (run-taken h t words xs y ys k a Open lines absent) ∙
     later-taken h t words ys (xs ++ y ∷ []) (subst (Takeable h t words) (sym (append-assoc xs (y ∷ []) ys)) k) (more-agrees h t words xs y ys k a) (lines + 1) fs ∙
@@ -168,22 +169,22 @@ module _ (h : Head) (words : ℕ) (x : Run) (ys : List Run) (k : Takeable h (x .
   headed : Reading
   headed = record { stage = Headed; lines = 0 + 1; rec = freshRecord h (record { 0 = 0 }) }
 
-  head-taken : onFrame Nothing (begun came .reading) came (HeadFrame h) ≡ record { reading = headed; words = came }
+  head-taken : onFrame Nothing (begun came .reading) came (HeadFrame (fieldsOf h)) ≡ record { reading = headed; words = came }
   unfolding onNothing takeHead headed
   head-taken = ap (λ b. cond b (taken Headed (begun came .reading) (freshRecord h (record { 0 = 0 })) came) (refused refusal.OverLimit (begun came .reading) came)) (k .held)
 
   first-taken : onFrame Headed headed came (sFrame (x .start .0) x) ≡ runsTaken h (x .start .0) words (x ∷ []) Open 2
   unfolding onHeaded takeFirstS headed
   first-taken =
-      let s : SFields = record { t = record { 0 = x .start .0 }; d = x .span; r = x .count - 1 } in
+      let s : SFields = record { t = record { 0 = x .start .0 }; d = x .span .0; r = x .count - 1 } in
       let there : firstTick (s .t) ≡ record { 0 = x .start .0 } =
-      ap (λ b. cond b (record { 0 = 0 }) (record { 0 = x .start .0 })) (ne-eqb (x .start .0) absent (λ z. let f : ⊥ = omega (arith, tick-small) in f))
+      ap (λ b. cond b (record { 0 = 0 }) (s .t)) (ne-eqb (x .start .0) absent (λ z. let f : ⊥ = omega (arith, tick-small) in f))
       in
-      ap (λ o. openedBy o headed came s) (ap (openOutcome h) there ∙ opens) ∙
-      ap₂ (λ (y : Record) (vs : List ℕ). takeS (record { stage = Headed; lines = 0 + 1; rec = y }) vs Joins s) (ap (freshRecord h) there ∙ fresh-is) zeros-are ∙
+      ap (λ o. openedBy o headed came s) (ap (λ t. openOutcome h (tickOf t)) there ∙ opens) ∙
+      ap₂ (λ (y : Record) (vs : List ℕ). takeS (record { stage = Headed; lines = 0 + 1; rec = y }) vs Joins s) (ap (λ t. freshRecord h (tickOf t)) there ∙ fresh-is) zeros-are ∙
       run-taken h (x .start .0) words [] x ys k fresh-agrees Headed (0 + 1) (x .start .0)
 
-  pub frames-taken : takeFrames (begun came) (HeadFrame h ∷ sFrames (x ∷ ys) ++ End (length (x ∷ ys)) ∷ []) ≡
+  pub frames-taken : takeFrames (begun came) (HeadFrame (fieldsOf h) ∷ sFrames (x ∷ ys) ++ End (length (x ∷ ys)) ∷ []) ≡
       runsTaken h (x .start .0) words (x ∷ ys) Ended (2 + length ys + 1)
   unfolding sFrames onOpen takeEnd headed
   frames-taken =

@@ -7,8 +7,9 @@ use lib.Dec.{eqb, ltb}
 use lib.ListN.{length, replicate}
 use Rattle.units.specs.declared.standing.Standing.{Standing}
 use Rattle.units.specs.declared.standing.Standing.the-variants.{Joins}
+use Rattle.units.specs.Limits.{tickOf}
 use Rattle.window.specs.declared.Head.{Head}
-use Rattle.window.specs.Limits.{headHeld}
+use Rattle.window.specs.Limits.{headHeld, headOf}
 use Rattle.agreement.specs.declared.Record.{Record}
 use Rattle.agreement.specs.declared.refusal.Refusal.the-variants.{OverLimit, BadOrder}
 use Rattle.keeping.specs.declared.Outcome.{Outcome}
@@ -42,11 +43,11 @@ module _ (r : Reading) (ws : List ℕ) (z : r .rec .clock .0 ≡ 0) where
     where
       go : (t : Bool) →
           AtZero
-          (cond t (appendedBy (appendOutcome (r .rec) ws st (s .d .0) (s .r + 1)) Open r ws (s .d .0) (s .r + 1)) (reachesBy r ws st (s .d .0)))
-      go true = settled-zero (appendOutcome (r .rec) ws st (s .d .0) (s .r + 1)) Open r (appended (r .rec) ws (s .d .0) (s .r + 1)) z z
+          (cond t (appendedBy (appendOutcome (r .rec) ws st (s .d) (s .r + 1)) Open r ws (s .d) (s .r + 1)) (reachesBy r ws st (s .d)))
+      go true = settled-zero (appendOutcome (r .rec) ws st (s .d) (s .r + 1)) Open r (appended (r .rec) ws (s .d) (s .r + 1)) z z
       go false =
-          let n = leastCount (r .rec .head) (r .rec .next .0) (s .d .0) in
-          settled-zero (reachOutcome (r .rec) ws st (s .d .0) n) Filled r (appended (r .rec) ws (s .d .0) n) z z
+          let n = leastCount (r .rec .head) (r .rec .next .0) (s .d) in
+          settled-zero (reachOutcome (r .rec) ws st (s .d) n) Filled r (appended (r .rec) ws (s .d) n) z z
 
   end-zero : (n : ℕ) → AtZero (takeEnd r ws n)
   unfolding takeEnd
@@ -67,16 +68,16 @@ module _ (r : Reading) (ws : List ℕ) (z : r .rec .clock .0 ≡ 0) where
 module _ (r : Reading) (ws : List ℕ) (z : r .rec .clock .0 ≡ 0) where
   first-zero : (s : SFields) → AtZero (takeFirstS r ws s)
   unfolding takeFirstS
-  first-zero s = go (openOutcome (r .rec .head) (firstTick (s .t)))
+  first-zero s = go (openOutcome (r .rec .head) (tickOf (firstTick (s .t))))
     where
       go : (o : Outcome) → AtZero (openedBy o r ws s)
       go outcome.Accepted =
-          s-zero (record { stage = Headed; lines = r .lines; rec = freshRecord (r .rec .head) (firstTick (s .t)) }) (replicate (length ws) 0) refl Joins s
+          s-zero (record { stage = Headed; lines = r .lines; rec = freshRecord (r .rec .head) (tickOf (firstTick (s .t))) }) (replicate (length ws) 0) refl Joins s
       go (outcome.Refused why) = z
 
   frame-zero : (st : Stage) (f : Frame) → AtZero (onFrame st r ws f)
   unfolding onNothing onHeaded onOpen onFilled
-  frame-zero Nothing (HeadFrame h) = head-zero r ws z h
+  frame-zero Nothing (HeadFrame f) = head-zero r ws z (headOf f)
   frame-zero Nothing (S s) = z
   frame-zero Nothing (End m) = z
   frame-zero Nothing (Clock c) = z

@@ -63,6 +63,6 @@ module _ (h : Head) (s d : ℕ) (lasts : 1 ≤ d) where
       let m : ℕ = (e + o - s * 1000 - 1) / (d * 1000) + 1 in
       let least =
       least-count h s d e o (s * 1000) e o (s * 1000) known before lasts (record { is = refl; small = le-refl e }) (record { is = refl; small = le-refl o })
-      (record { is = refl; small = le-refl (s * 1000) })
+      (record { is = refl; small = le-refl (s * 1000) }) (d * 1000) (d * 1000) (record { is = refl; small = le-refl (d * 1000) })
       in
       subst (LeastCount h s d) (least-is m least) least

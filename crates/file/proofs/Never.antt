@@ -9,9 +9,9 @@ use lib.Dec.{eqb, ltb, leb}
 use lib.ListN.{length, replicate}
 use Rattle.units.specs.declared.standing.Standing.{Standing}
 use Rattle.units.specs.declared.standing.Standing.the-variants.{Joins, Gap, Overlap}
-use Rattle.units.specs.Limits.{largestTick, tickHeld}
+use Rattle.units.specs.Limits.{largestTick, tickHeld, tickOf}
 use Rattle.window.specs.declared.Head.{Head}
-use Rattle.window.specs.Limits.{headHeld}
+use Rattle.window.specs.Limits.{headHeld, headOf}
 use Rattle.window.specs.Place.{endKnown, beforeEnd}
 use Rattle.runs.specs.Words.{capacity}
 use Rattle.runs.specs.Encoding.{runsFor}
@@ -104,16 +104,16 @@ module _ (r : Reading) (ws : List ℕ) where
     where
       go : (t : Bool) →
           OtherStage
-          (cond t (appendedBy (appendOutcome (r .rec) ws st (s .d .0) (s .r + 1)) Open r ws (s .d .0) (s .r + 1))
-          (appendedBy (reachOutcome (r .rec) ws st (s .d .0) (leastCount (r .rec .head) (r .rec .next .0) (s .d .0))) Filled r ws (s .d .0)
-          (leastCount (r .rec .head) (r .rec .next .0) (s .d .0)))
+          (cond t (appendedBy (appendOutcome (r .rec) ws st (s .d) (s .r + 1)) Open r ws (s .d) (s .r + 1))
+          (appendedBy (reachOutcome (r .rec) ws st (s .d) (leastCount (r .rec .head) (r .rec .next .0) (s .d))) Filled r ws (s .d)
+          (leastCount (r .rec .head) (r .rec .next .0) (s .d)))
           .reading
           .stage)
       go true =
-          settles (appendOutcome (r .rec) ws st (s .d .0) (s .r + 1)) Open (appended (r .rec) ws (s .d .0) (s .r + 1)) tt (appends (r .rec) ws (s .d .0) (s .r + 1) st a)
+          settles (appendOutcome (r .rec) ws st (s .d) (s .r + 1)) Open (appended (r .rec) ws (s .d) (s .r + 1)) tt (appends (r .rec) ws (s .d) (s .r + 1) st a)
       go false =
-          let n = leastCount (r .rec .head) (r .rec .next .0) (s .d .0) in
-          settles (reachOutcome (r .rec) ws st (s .d .0) n) Filled (appended (r .rec) ws (s .d .0) n) tt (reaches (r .rec) ws (s .d .0) n st)
+          let n = leastCount (r .rec .head) (r .rec .next .0) (s .d) in
+          settles (reachOutcome (r .rec) ws st (s .d) n) Filled (appended (r .rec) ws (s .d) n) tt (reaches (r .rec) ws (s .d) n st)
 
   takes-end : (n : ℕ) → OtherStage (takeEnd r ws n .reading .stage)
   unfolding takeEnd
@@ -134,20 +134,20 @@ module _ (r : Reading) (ws : List ℕ) where
 module _ (r : Reading) (ws : List ℕ) where
   takes-first : (s : SFields) → OtherStage (takeFirstS r ws s .reading .stage)
   unfolding takeFirstS openOutcome
-  takes-first s = go (openOutcome (r .rec .head) (firstTick (s .t))) refl opens
+  takes-first s = go (openOutcome (r .rec .head) (tickOf (firstTick (s .t)))) refl opens
     where
-      opens : Other (openOutcome (r .rec .head) (firstTick (s .t)))
-      opens = either (headHeld (r .rec .head) && tickHeld (firstTick (s .t))) accepted (other refusal.OverLimit refl)
+      opens : Other (openOutcome (r .rec .head) (tickOf (firstTick (s .t))))
+      opens = either (headHeld (r .rec .head) && tickHeld (tickOf (firstTick (s .t)))) accepted (other refusal.OverLimit refl)
 
-      go : (o : Outcome) → openOutcome (r .rec .head) (firstTick (s .t)) ≡ o → Other o → OtherStage (openedBy o r ws s .reading .stage)
+      go : (o : Outcome) → openOutcome (r .rec .head) (tickOf (firstTick (s .t))) ≡ o → Other o → OtherStage (openedBy o r ws s .reading .stage)
       go outcome.Accepted e p =
-          takes-s (record { stage = Headed; lines = r .lines; rec = freshRecord (r .rec .head) (firstTick (s .t)) }) (replicate (length ws) 0) Joins s
-          (open-agrees (r .rec .head) (firstTick (s .t)) (length ws) e)
+          takes-s (record { stage = Headed; lines = r .lines; rec = freshRecord (r .rec .head) (tickOf (firstTick (s .t))) }) (replicate (length ws) 0) Joins s
+          (open-agrees (r .rec .head) (tickOf (firstTick (s .t))) (length ws) e)
       go (outcome.Refused why) e p = p
 
   frame-other : (st : Stage) (f : Frame) → Sound st r ws → r .stage ≡ st → OtherStage st → OtherStage (onFrame st r ws f .reading .stage)
   unfolding Sound onNothing onHeaded onOpen onFilled
-  frame-other Nothing (HeadFrame h) k e p = takes-head r ws h
+  frame-other Nothing (HeadFrame f) k e p = takes-head r ws (headOf f)
   frame-other Nothing (S s) k e p = other refusal.BadOrder refl
   frame-other Nothing (End m) k e p = other refusal.BadOrder refl
   frame-other Nothing (Clock c) k e p = other refusal.BadLine refl

@@ -8,7 +8,8 @@ use types.Run.{OneOf, miss}
 use denote.Enum.Declared.{tagOf}
 use Rattle.units.specs.declared.standing.Standing.{Standing}
 use Rattle.units.specs.Limits.{largestSpan}
-use Rattle.window.specs.declared.Head.{Head}
+use Rattle.window.specs.declared.HeadFields.{HeadFields}
+use Rattle.window.specs.Limits.{headOf}
 use Rattle.agreement.specs.declared.refusal.Refusal.{Refusal}
 use Rattle.agreement.specs.declared.refusal.Refusal.the-variants as refusal
 use Rattle.agreement.proofs.Agreeing.{agreeing}
@@ -77,17 +78,17 @@ module _ (r : Reading) (f : Frame) (why : Refusal) (e : why ≡ misplaced f) (x 
 
 -- ---- a frame that may
 
-module _ (r : Reading) (f : Frame) (h : Head) (e : f ≡ HeadFrame h) where
-  pub nothing-head : (x : Reading) → ((ws : List ℕ) → _≡_ {A = File} (record { reading = x; words = ws }) (takeHead r ws h)) →
+module _ (r : Reading) (f : Frame) (h : HeadFields) (e : f ≡ HeadFrame h) where
+  pub nothing-head : (x : Reading) → ((ws : List ℕ) → _≡_ {A = File} (record { reading = x; words = ws }) (takeHead r ws (headOf h))) →
       (ws : List ℕ) → _≡_ {A = File} (record { reading = x; words = ws }) (onNothing r ws f)
   unfolding onNothing
   nothing-head x k ws = k ws ∙ sym (ap (onNothing r ws) e)
 
 module _ (r : Reading) (ws : List ℕ) (f : Frame) (s : SFields) (e : f ≡ S s) where
-  narrow-s : Narrow f → s .d .0 ≤ largestSpan
+  narrow-s : Narrow f → s .d ≤ largestSpan
   narrow-s n = subst Narrow e n
 
-  pub headed-asks : Begins r × Narrow f → Begins r × (s .d .0 ≤ largestSpan)
+  pub headed-asks : Begins r × Narrow f → Begins r × (s .d ≤ largestSpan)
   headed-asks h = (h .0, narrow-s (h .1))
 
   pub headed-s : (x : Reading) (vs : List ℕ) → _≡_ {A = File} (record { reading = x; words = vs }) (takeFirstS r ws s) →
@@ -95,7 +96,7 @@ module _ (r : Reading) (ws : List ℕ) (f : Frame) (s : SFields) (e : f ≡ S s)
   unfolding onHeaded
   headed-s x vs k = k ∙ sym (ap (onHeaded r ws) e)
 
-  pub open-asks : Running r ws × Narrow f → Running r ws × (s .d .0 ≤ largestSpan)
+  pub open-asks : Running r ws × Narrow f → Running r ws × (s .d ≤ largestSpan)
   open-asks h = (h .0, narrow-s (h .1))
 
   pub open-s : (st : Standing) → st ≡ laterStanding (s .t) (r .rec .next) → (x : Reading) (vs : List ℕ) →

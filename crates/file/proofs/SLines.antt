@@ -1,18 +1,22 @@
 -- An S line, as the code meets it: a negative r, r of 0 or more, and the first S line, which opens the timeline.
 use mathlib.Core.Path.{_≡_, refl, sym, ap, ap₂, _∙_}
-use mathlib.Core.Bool.{Bool, true, false, cond, not, _&&_}
+use mathlib.Core.Bool.{Bool, true, false, cond, not}
 use mathlib.Core.List.{List}
 use Prim.Native.Nat.{ℕ, _+_, _≤_, _<_}
 use native.Mathlib.Omega.{arith}
-use borrow.Author.Tests.{le-leb, lt-ltb, le-ltb, eq-eqb, ne-eqb, not-true, not-false}
+use borrow.Author.Tests.{lt-ltb, le-ltb, eq-eqb, ne-eqb, not-true, not-false}
 use lib.Dec.{eqb, ltb}
 use lib.ListN.{length, replicate}
 use Rattle.units.specs.declared.Span.{Span}
-use Rattle.units.specs.declared.Tick.{Tick}
+use Rattle.units.specs.declared.SpanMade.{SpanMade}
+use Rattle.units.specs.declared.SpanMade.the-variants as span
+use Rattle.units.specs.declared.WideTick.{WideTick}
 use Rattle.units.specs.declared.standing.Standing.{Standing}
 use Rattle.units.specs.declared.standing.Standing.the-variants.{Joins, Gap, Overlap}
-use Rattle.units.specs.Limits.{largestTick, largestSpan, spanHeld}
-use Rattle.window.specs.Limits.{Held}
+use Rattle.units.specs.Limits.{largestTick, largestSpan, spanHeld, spanMade, tickOf}
+use Rattle.units.proofs.Makers as makers
+use Rattle.window.specs.declared.HeadFields.{HeadFields}
+use Rattle.window.specs.Limits.{Held, headOf, fieldsOf}
 use Rattle.window.specs.Place.{endKnown, beforeEnd}
 use Rattle.window.specs.Ticks.{LeastCount}
 use Rattle.window.proofs.Unsigned.{not-known, is-known}
@@ -121,100 +125,109 @@ module _ (r : Reading) (ws : List ℕ) (span : Span) (h : Running r ws × (spanH
 
 -- ---- an S line
 
-module _ (r : Reading) (ws : List ℕ) (st : Standing) (s : SFields) (h : Running r ws × (s .d .0 ≤ largestSpan)) where
+module _ (r : Reading) (ws : List ℕ) (st : Standing) (s : SFields) (h : Running r ws × (s .d ≤ largestSpan)) where
   -- what both kinds of r are refused with
-  s-refused : (why : Refusal) → ((n : ℕ) → (n ≡ 0 → ⊥) → appendOutcome (r .rec) ws st (s .d .0) n ≡ outcome.Refused why) →
-      ((n : ℕ) → reachOutcome (r .rec) ws st (s .d .0) n ≡ outcome.Refused why) →
+  s-refused : (why : Refusal) → ((n : ℕ) → (n ≡ 0 → ⊥) → appendOutcome (r .rec) ws st (s .d) n ≡ outcome.Refused why) →
+      ((n : ℕ) → reachOutcome (r .rec) ws st (s .d) n ≡ outcome.Refused why) →
       (x : Reading) → x ≡ record { stage = Refused why; lines = r .lines; rec = r .rec } → _≡_ {A = File} (record { reading = x; words = ws }) (takeS r ws st s)
   unfolding takeS reachesBy
   s-refused why a b x k = refused-by r ws why x k (takeS r ws st s) (go (ltb (s .r) firstNegative))
     where
       go : (t : Bool) → refused why r ws ≡
-          cond t (appendedBy (appendOutcome (r .rec) ws st (s .d .0) (s .r + 1)) Open r ws (s .d .0) (s .r + 1)) (reachesBy r ws st (s .d .0))
+          cond t (appendedBy (appendOutcome (r .rec) ws st (s .d) (s .r + 1)) Open r ws (s .d) (s .r + 1)) (reachesBy r ws st (s .d))
       go true =
-          refused-is (appendOutcome (r .rec) ws st (s .d .0) (s .r + 1)) why Open r (appended (r .rec) ws (s .d .0) (s .r + 1))
-          (canonical (length ws) (leftOf (r .rec) ws (s .d .0) (s .r + 1))) ws (a (s .r + 1) (λ z. let f : ⊥ = omega arith in f))
+          refused-is (appendOutcome (r .rec) ws st (s .d) (s .r + 1)) why Open r (appended (r .rec) ws (s .d) (s .r + 1))
+          (canonical (length ws) (leftOf (r .rec) ws (s .d) (s .r + 1))) ws (a (s .r + 1) (λ z. let f : ⊥ = omega arith in f))
       go false =
-          let n = leastCount (r .rec .head) (r .rec .next .0) (s .d .0) in
-          refused-is (reachOutcome (r .rec) ws st (s .d .0) n) why Filled r (appended (r .rec) ws (s .d .0) n)
-          (canonical (length ws) (leftOf (r .rec) ws (s .d .0) n)) ws (b n)
+          let n = leastCount (r .rec .head) (r .rec .next .0) (s .d) in
+          refused-is (reachOutcome (r .rec) ws st (s .d) n) why Filled r (appended (r .rec) ws (s .d) n)
+          (canonical (length ws) (leftOf (r .rec) ws (s .d) n)) ws (b n)
 
-  pub s-nothing : s .d .0 ≡ 0 → (x : Reading) → x ≡ record { stage = Refused refusal.NothingGiven; lines = r .lines; rec = r .rec } →
-      _≡_ {A = File} (record { reading = x; words = ws }) (takeS r ws st s)
-  s-nothing z x k =
-      s-refused refusal.NothingGiven (λ n i. no-duration (r .rec) ws st (s .d .0) n (h .0 .agreed) z)
-      (λ n. reach-by (r .rec) ws st st (s .d .0) n true (eq-eqb (s .d .0) 0 z) refl) x k
-
-  module _ (i : s .d .0 ≡ 0 → ⊥) where
-    pub s-gap : st ≡ Gap → (x : Reading) → x ≡ record { stage = Refused refusal.Gap; lines = r .lines; rec = r .rec } →
+  -- the answer of the constructor decides first
+  module _ (m : SpanMade) (made : m ≡ spanMade (s .d)) where
+    pub s-nothing : m ≡ span.Refused → (x : Reading) → x ≡ record { stage = Refused refusal.NothingGiven; lines = r .lines; rec = r .rec } →
         _≡_ {A = File} (record { reading = x; words = ws }) (takeS r ws st s)
-    s-gap e x k =
-        s-refused refusal.Gap (λ n j. stands-gap (r .rec) ws st (s .d .0) n (h .0 .agreed) i j e)
-        (λ n. reach-by (r .rec) ws st Gap (s .d .0) n false (ne-eqb (s .d .0) 0 i) e) x k
+    s-nothing o x k =
+        let z = makers.no-duration (s .d) m made (h .1) o in
+        s-refused refusal.NothingGiven (λ n i. no-duration (r .rec) ws st (s .d) n (h .0 .agreed) z)
+        (λ n. reach-by (r .rec) ws st st (s .d) n true (eq-eqb (s .d) 0 z) refl) x k
 
-    pub s-overlap : st ≡ Overlap → (x : Reading) → x ≡ record { stage = Refused refusal.Overlap; lines = r .lines; rec = r .rec } →
-        _≡_ {A = File} (record { reading = x; words = ws }) (takeS r ws st s)
-    s-overlap e x k =
-        s-refused refusal.Overlap (λ n j. stands-overlap (r .rec) ws st (s .d .0) n (h .0 .agreed) i j e)
-        (λ n. reach-by (r .rec) ws st Overlap (s .d .0) n false (ne-eqb (s .d .0) 0 i) e) x k
+    module _ (sp : Span) (o : m ≡ span.Made sp) where
+      i : s .d ≡ 0 → ⊥
+      i = makers.duration-some (s .d) m made sp o
 
-    pub s-held : Running r ws × (spanHeld (s .d) ≡ true)
-    s-held = (h .0, ap₂ _&&_ (le-leb 1 (s .d .0) (omega arith)) (le-leb (s .d .0) largestSpan (h .1)))
+      is : sp ≡ record { 0 = s .d }
+      is = makers.duration-is (s .d) m made sp o
 
-    -- ---- one that joins, by the sign of r
+      pub s-gap : st ≡ Gap → (x : Reading) → x ≡ record { stage = Refused refusal.Gap; lines = r .lines; rec = r .rec } →
+          _≡_ {A = File} (record { reading = x; words = ws }) (takeS r ws st s)
+      s-gap e x k =
+          s-refused refusal.Gap (λ n j. stands-gap (r .rec) ws st (s .d) n (h .0 .agreed) i j e)
+          (λ n. reach-by (r .rec) ws st Gap (s .d) n false (ne-eqb (s .d) 0 i) e) x k
 
-    module _ (e : st ≡ Joins) where
-      -- what it is by its sign
-      by-sign : (b : Bool) → ltb (s .r) firstNegative ≡ b →
-          cond b (appendedBy (appendOutcome (r .rec) ws Joins (s .d .0) (s .r + 1)) Open r ws (s .d .0) (s .r + 1)) (reachesBy r ws Joins (s .d .0)) ≡ takeS r ws st s
-      unfolding takeS
-      by-sign b k =
-          ap₂
-          (λ c y. cond c (appendedBy (appendOutcome (r .rec) ws y (s .d .0) (s .r + 1)) Open r ws (s .d .0) (s .r + 1)) (reachesBy r ws y (s .d .0)))
-          (sym k)
-          (sym e)
+      pub s-overlap : st ≡ Overlap → (x : Reading) → x ≡ record { stage = Refused refusal.Overlap; lines = r .lines; rec = r .rec } →
+          _≡_ {A = File} (record { reading = x; words = ws }) (takeS r ws st s)
+      s-overlap e x k =
+          s-refused refusal.Overlap (λ n j. stands-overlap (r .rec) ws st (s .d) n (h .0 .agreed) i j e)
+          (λ n. reach-by (r .rec) ws st Overlap (s .d) n false (ne-eqb (s .d) 0 i) e) x k
 
-      pub s-reaches : firstNegative ≤ s .r → (x : Reading) (vs : List ℕ) → _≡_ {A = File} (record { reading = x; words = vs }) (reachesBy r ws Joins (s .d .0)) →
-          _≡_ {A = File} (record { reading = x; words = vs }) (takeS r ws st s)
-      s-reaches n x vs k = k ∙ by-sign false (le-ltb (s .r) firstNegative n)
+      pub s-held : Running r ws × (spanHeld sp ≡ true)
+      s-held = (h .0, makers.duration-held (s .d) m made sp o)
 
-      module _ (n : s .r < firstNegative) where
-        pub s-asks : (agrees (r .rec) ws ≡ true) × (spanHeld (s .d) ≡ true) × (1 ≤ s .r + 1)
-        s-asks = (h .0 .agreed, s-held .1, omega arith)
+      -- ---- one that joins, by the sign of r
 
-        pub s-lines : r .lines ≤ mostLines
-        s-lines = few-lines r ws (s .d) s-held
+      module _ (e : st ≡ Joins) where
+        -- what it is by its sign
+        by-sign : (b : Bool) → ltb (s .r) firstNegative ≡ b →
+            cond b (appendedBy (appendOutcome (r .rec) ws Joins (s .d) (s .r + 1)) Open r ws (s .d) (s .r + 1)) (reachesBy r ws Joins (s .d)) ≡ takeS r ws st s
+        unfolding takeS
+        by-sign b k =
+            ap₂
+            (λ c y. cond c (appendedBy (appendOutcome (r .rec) ws y (s .d) (s .r + 1)) Open r ws (s .d) (s .r + 1)) (reachesBy r ws y (s .d)))
+            (sym k)
+            (sym e)
 
-        pub s-appended : (c : Changed) → c ≡ changedBy (fitOutcome (r .rec) ws (s .d .0) (s .r + 1)) (appended (r .rec) ws (s .d .0) (s .r + 1)) (r .rec) →
-            (vs : List ℕ) → vs ≡ wordsBy (fitOutcome (r .rec) ws (s .d .0) (s .r + 1)) (canonical (length ws) (leftOf (r .rec) ws (s .d .0) (s .r + 1))) ws →
-            (x : Reading) → x ≡ settledReading (c .outcome) Open r (c .rec) →
+        pub s-reaches : firstNegative ≤ s .r → (x : Reading) (vs : List ℕ) → _≡_ {A = File} (record { reading = x; words = vs }) (reachesBy r ws Joins (sp .0)) →
             _≡_ {A = File} (record { reading = x; words = vs }) (takeS r ws st s)
-        s-appended c k vs v x j =
-            appended-by (appendOutcome (r .rec) ws Joins (s .d .0) (s .r + 1)) (fitOutcome (r .rec) ws (s .d .0) (s .r + 1)) Open r ws (s .d .0) (s .r + 1) (s .r + 1)
-            (stands-joins (r .rec) ws Joins (s .d .0) (s .r + 1) (h .0 .agreed) i (λ z. let f : ⊥ = omega arith in f) refl)
-            refl
-            c
-            k
-            vs
-            v
-            x
-            j ∙
-            by-sign true (lt-ltb (s .r) firstNegative n)
+        s-reaches n x vs k = k ∙ ap (λ (y : Span). reachesBy r ws Joins (y .0)) is ∙ by-sign false (le-ltb (s .r) firstNegative n)
+
+        module _ (n : s .r < firstNegative) where
+          pub s-asks : (agrees (r .rec) ws ≡ true) × (spanHeld sp ≡ true) × (1 ≤ s .r + 1)
+          s-asks = (h .0 .agreed, s-held .1, omega arith)
+
+          pub s-lines : r .lines ≤ mostLines
+          s-lines = few-lines r ws sp s-held
+
+          pub s-appended : (c : Changed) → c ≡ changedBy (fitOutcome (r .rec) ws (sp .0) (s .r + 1)) (appended (r .rec) ws (sp .0) (s .r + 1)) (r .rec) →
+              (vs : List ℕ) → vs ≡ wordsBy (fitOutcome (r .rec) ws (sp .0) (s .r + 1)) (canonical (length ws) (leftOf (r .rec) ws (sp .0) (s .r + 1))) ws →
+              (x : Reading) → x ≡ settledReading (c .outcome) Open r (c .rec) →
+              _≡_ {A = File} (record { reading = x; words = vs }) (takeS r ws st s)
+          s-appended c k vs v x j =
+              appended-by (appendOutcome (r .rec) ws Joins (s .d) (s .r + 1)) (fitOutcome (r .rec) ws (s .d) (s .r + 1)) Open r ws (s .d) (s .r + 1) (s .r + 1)
+              (stands-joins (r .rec) ws Joins (s .d) (s .r + 1) (h .0 .agreed) i (λ z. let f : ⊥ = omega arith in f) refl)
+              refl
+              c
+              (k ∙ ap (λ (y : Span). changedBy (fitOutcome (r .rec) ws (y .0) (s .r + 1)) (appended (r .rec) ws (y .0) (s .r + 1)) (r .rec)) is)
+              vs
+              (v ∙ ap (λ (y : Span). wordsBy (fitOutcome (r .rec) ws (y .0) (s .r + 1)) (canonical (length ws) (leftOf (r .rec) ws (y .0) (s .r + 1))) ws) is)
+              x
+              j ∙
+              by-sign true (lt-ltb (s .r) firstNegative n)
 
 -- ---- the first S line
 
-module _ (r : Reading) (ws : List ℕ) (s : SFields) (h : Begins r × (s .d .0 ≤ largestSpan)) (t : Tick) (e : t ≡ firstTick (s .t))
-    (c : Changed) (k : c ≡ openAnswer (r .rec .head) t) (vs : List ℕ) (v : vs ≡ openTable (r .rec .head) t ws) where
+module _ (r : Reading) (ws : List ℕ) (s : SFields) (h : Begins r × (s .d ≤ largestSpan)) (f : HeadFields) (g : f ≡ fieldsOf (r .rec .head)) (t : WideTick) (e : t ≡ firstTick (s .t))
+    (c : Changed) (k : c ≡ openAnswer (headOf f) (tickOf t)) (vs : List ℕ) (v : vs ≡ openTable (headOf f) (tickOf t) ws) where
   opening : Outcome
-  opening = openOutcome (r .rec .head) (firstTick (s .t))
+  opening = openOutcome (r .rec .head) (tickOf (firstTick (s .t)))
 
-  same-answer : c ≡ changedBy opening (freshRecord (r .rec .head) (firstTick (s .t))) zeroRecord
+  same-answer : c ≡ changedBy opening (freshRecord (r .rec .head) (tickOf (firstTick (s .t)))) zeroRecord
   unfolding opening
-  same-answer = k ∙ ap (openAnswer (r .rec .head)) e
+  same-answer = k ∙ ap₂ (λ (x : HeadFields) (y : WideTick). openAnswer (headOf x) (tickOf y)) g e
 
   same-words : vs ≡ wordsBy opening (replicate (length ws) 0) ws
   unfolding opening
-  same-words = v ∙ ap (λ y. openTable (r .rec .head) y ws) e
+  same-words = v ∙ ap₂ (λ (x : HeadFields) (y : WideTick). openTable (headOf x) (tickOf y) ws) g e
 
   -- what the call answered tells its outcome
   told : (o other : Outcome) (new old : Record) (d : Changed) → d ≡ changedBy o new old → d .outcome ≡ other → o ≡ other
@@ -223,7 +236,7 @@ module _ (r : Reading) (ws : List ℕ) (s : SFields) (h : Begins r × (s .d .0 �
   told (outcome.Refused why) other new old d p q = ap (λ (y : Changed). y .outcome) (sym p) ∙ q
 
   opens : (o : Outcome) → c .outcome ≡ o → opening ≡ o
-  opens o q = told opening o (freshRecord (r .rec .head) (firstTick (s .t))) zeroRecord c same-answer q
+  opens o q = told opening o (freshRecord (r .rec .head) (tickOf (firstTick (s .t)))) zeroRecord c same-answer q
 
   pub first-refused : (why : Refusal) → c .outcome ≡ outcome.Refused why →
       (x : Reading) → x ≡ record { stage = Refused why; lines = r .lines; rec = r .rec } → _≡_ {A = File} (record { reading = x; words = vs }) (takeFirstS r ws s)
@@ -235,7 +248,7 @@ module _ (r : Reading) (ws : List ℕ) (s : SFields) (h : Begins r × (s .d .0 �
 
   module _ (q : c .outcome ≡ outcome.Accepted) where
     fresh : Record
-    fresh = freshRecord (r .rec .head) (firstTick (s .t))
+    fresh = freshRecord (r .rec .head) (tickOf (firstTick (s .t)))
 
     opened-record : c .rec ≡ fresh
     unfolding changedBy fresh
@@ -247,9 +260,9 @@ module _ (r : Reading) (ws : List ℕ) (s : SFields) (h : Begins r × (s .d .0 �
 
     opened-agrees : agrees fresh (replicate (length ws) 0) ≡ true
     unfolding fresh opening
-    opened-agrees = open-agrees (r .rec .head) (firstTick (s .t)) (length ws) (opens outcome.Accepted q)
+    opened-agrees = open-agrees (r .rec .head) (tickOf (firstTick (s .t))) (length ws) (opens outcome.Accepted q)
 
-    pub first-asks : Running (record { stage = Headed; lines = r .lines; rec = c .rec }) vs × (s .d .0 ≤ largestSpan)
+    pub first-asks : Running (record { stage = Headed; lines = r .lines; rec = c .rec }) vs × (s .d ≤ largestSpan)
     unfolding fresh
     first-asks = (
       record {

@@ -10,9 +10,9 @@ use lib.ListN.{length, replicate, length-replicate}
 use Rattle.units.specs.declared.standing.Standing.{Standing}
 use Rattle.units.specs.declared.standing.Standing.the-variants.{Joins, Gap, Overlap}
 use Rattle.units.specs.Exactly.{Exactly}
-use Rattle.units.specs.Limits.{largestSpan}
+use Rattle.units.specs.Limits.{largestSpan, tickOf}
 use Rattle.window.specs.declared.Head.{Head}
-use Rattle.window.specs.Limits.{headHeld}
+use Rattle.window.specs.Limits.{headHeld, headOf}
 use Rattle.window.specs.Place.{endKnown, beforeEnd}
 use Rattle.window.specs.Ticks.{LeastCount}
 use Rattle.runs.specs.Encoding.{canonical}
@@ -138,22 +138,22 @@ module _ (words : ℕ) (r : Reading) (ws : List ℕ) (long : length ws ≡ words
     canonical-length (length ws) (leftOf (r .rec) ws d n) (taken (r .rec) ws st d n o .room) ∙ long,
   )
 
-  s-sound : (st : Standing) (s : SFields) → Running r ws → s .d .0 ≤ largestSpan → SoundFile words (takeS r ws st s)
+  s-sound : (st : Standing) (s : SFields) → Running r ws → s .d ≤ largestSpan → SoundFile words (takeS r ws st s)
   unfolding takeS reachesBy Sound settledReading wordsBy
   s-sound st s h small =
-      go (ltb (s .r) firstNegative) (appendOutcome (r .rec) ws st (s .d .0) (s .r + 1)) refl
-      (reachOutcome (r .rec) ws st (s .d .0) (leastCount (r .rec .head) (r .rec .next .0) (s .d .0)))
+      go (ltb (s .r) firstNegative) (appendOutcome (r .rec) ws st (s .d) (s .r + 1)) refl
+      (reachOutcome (r .rec) ws st (s .d) (leastCount (r .rec .head) (r .rec .next .0) (s .d)))
       refl
     where
-      go : (t : Bool) (o : Outcome) → appendOutcome (r .rec) ws st (s .d .0) (s .r + 1) ≡ o →
-          (p : Outcome) → reachOutcome (r .rec) ws st (s .d .0) (leastCount (r .rec .head) (r .rec .next .0) (s .d .0)) ≡ p →
+      go : (t : Bool) (o : Outcome) → appendOutcome (r .rec) ws st (s .d) (s .r + 1) ≡ o →
+          (p : Outcome) → reachOutcome (r .rec) ws st (s .d) (leastCount (r .rec .head) (r .rec .next .0) (s .d)) ≡ p →
           SoundFile words
-          (cond t (appendedBy o Open r ws (s .d .0) (s .r + 1)) (appendedBy p Filled r ws (s .d .0) (leastCount (r .rec .head) (r .rec .next .0) (s .d .0))))
-      go true outcome.Accepted e p f = appended-running (s .d .0) (s .r + 1) st Open h small e
+          (cond t (appendedBy o Open r ws (s .d) (s .r + 1)) (appendedBy p Filled r ws (s .d) (leastCount (r .rec .head) (r .rec .next .0) (s .d))))
+      go true outcome.Accepted e p f = appended-running (s .d) (s .r + 1) st Open h small e
       go true (outcome.Refused why) e p f = (record { few = running-few h }, long)
       go false o e outcome.Accepted f =
-          let n = leastCount (r .rec .head) (r .rec .next .0) (s .d .0) in
-          appended-running (s .d .0) n st Filled h small (reach-accepted (r .rec) ws st (s .d .0) n (h .agreed) refl f)
+          let n = leastCount (r .rec .head) (r .rec .next .0) (s .d) in
+          appended-running (s .d) n st Filled h small (reach-accepted (r .rec) ws st (s .d) n (h .agreed) refl f)
       go false o e (outcome.Refused why) f = (record { few = running-few h }, long)
 
   end-sound : (n : ℕ) → Running r ws → SoundFile words (takeEnd r ws n)
@@ -173,15 +173,15 @@ module _ (words : ℕ) (r : Reading) (ws : List ℕ) (long : length ws ≡ words
       go false e = (record { few = omega arith }, long)
 
 module _ (words : ℕ) (r : Reading) (ws : List ℕ) (long : length ws ≡ words) where
-  first-sound : (s : SFields) → Begins r → s .d .0 ≤ largestSpan → SoundFile words (takeFirstS r ws s)
+  first-sound : (s : SFields) → Begins r → s .d ≤ largestSpan → SoundFile words (takeFirstS r ws s)
   unfolding takeFirstS
-  first-sound s b small = go (openOutcome (r .rec .head) (firstTick (s .t))) refl
+  first-sound s b small = go (openOutcome (r .rec .head) (tickOf (firstTick (s .t)))) refl
     where
-      go : (o : Outcome) → openOutcome (r .rec .head) (firstTick (s .t)) ≡ o → SoundFile words (openedBy o r ws s)
+      go : (o : Outcome) → openOutcome (r .rec .head) (tickOf (firstTick (s .t))) ≡ o → SoundFile words (openedBy o r ws s)
       go outcome.Accepted e =
-          s-sound words (record { stage = Headed; lines = r .lines; rec = freshRecord (r .rec .head) (firstTick (s .t)) }) (replicate (length ws) 0)
+          s-sound words (record { stage = Headed; lines = r .lines; rec = freshRecord (r .rec .head) (tickOf (firstTick (s .t))) }) (replicate (length ws) 0)
           (length-replicate (length ws) 0 ∙ long) Joins s
-          (record { agreed = open-agrees (r .rec .head) (firstTick (s .t)) (length ws) e; some = omega (arith, b .one); few = omega (arith, b .one) })
+          (record { agreed = open-agrees (r .rec .head) (tickOf (firstTick (s .t))) (length ws) e; some = omega (arith, b .one); few = omega (arith, b .one) })
           small
       go (outcome.Refused why) e = refused-sound words r ws long why (omega (arith, b .one))
 
@@ -196,7 +196,7 @@ module _ (words : ℕ) (r : Reading) (ws : List ℕ) (long : length ws ≡ words
 
   frame-sound : (st : Stage) (f : Frame) → Sound st r ws → r .stage ≡ st → Narrow f → SoundFile words (onFrame st r ws f)
   unfolding Sound onNothing onHeaded onOpen onFilled
-  frame-sound Nothing (HeadFrame h) k e n = head-sound words r ws long h k
+  frame-sound Nothing (HeadFrame f) k e n = head-sound words r ws long (headOf f) k
   frame-sound Nothing (S s) k e n = refused-sound words r ws long refusal.BadOrder (few Nothing k)
   frame-sound Nothing (End m) k e n = refused-sound words r ws long refusal.BadOrder (few Nothing k)
   frame-sound Nothing (Clock c) k e n = refused-sound words r ws long refusal.BadLine (few Nothing k)

@@ -8,6 +8,7 @@ use native.Mathlib.Omega.{arith}
 use borrow.Author.Tests.{not-true}
 use lib.ListN.{length, length-append}
 use Rattle.window.specs.declared.Head.{Head}
+use Rattle.window.specs.Limits.{fieldsOf}
 use Rattle.window.specs.declared.Reference.{Reference}
 use Rattle.window.specs.Place.{place, moment, periodEnd, beforeEnd}
 use Rattle.window.specs.Window.{lowEdge, endOf, passed}
@@ -141,12 +142,12 @@ module _ (rec : Record) (ws : List ℕ) (a : agrees rec ws ≡ true) (came : Lis
         }
 
     frames : List Frame
-    frames = HeadFrame head ∷ sFrames (x ∷ ys) ++ End (length (x ∷ ys)) ∷ []
+    frames = HeadFrame (fieldsOf head) ∷ sFrames (x ∷ ys) ++ End (length (x ∷ ys)) ∷ []
 
     file-is : fileFor rec ws ≡ bytesOf frames
     unfolding fileOf frames head
     file-is =
-        ap₂ (λ (rs : List Run) (n : ℕ). bytesOf (HeadFrame (keptHead rec) ∷ sFrames rs ++ End n ∷ []))
+        ap₂ (λ (rs : List Run) (n : ℕ). bytesOf (HeadFrame (fieldsOf (keptHead rec)) ∷ sFrames rs ++ End n ∷ []))
         (encoded (runsOf (rec .used) ws) (runs-shaped (rec .used) ws (facts .table)) ∙ e)
         (runs-for-kept (rec .used) ws (facts .table) ∙ sym many)
 

@@ -1,9 +1,9 @@
 -- The steps of the judgement of a line, as the code meets them: an absent t, what an outcome settles, the head and the end. S lines: SLines.
 use mathlib.Core.Path.{_≡_, sym, ap, ap₂, _∙_}
-use mathlib.Core.Bool.{Bool, true, false, cond, not}
+use mathlib.Core.Bool.{Bool, true, false, cond}
 use mathlib.Core.List.{List}
 use Prim.Native.Nat.{ℕ, _+_, _-_}
-use borrow.Author.Tests.{eq-eqb, ne-eqb, not-true, not-false}
+use borrow.Author.Tests.{eq-eqb, ne-eqb}
 use lib.ListN.{length}
 use Rattle.units.specs.declared.Tick.{Tick}
 use Rattle.units.specs.declared.WideTick.{WideTick}
@@ -11,7 +11,11 @@ use Rattle.units.specs.declared.standing.Standing.{Standing}
 use Rattle.units.specs.declared.standing.Standing.the-variants.{Joins}
 use Rattle.units.specs.Standing.{tickStanding}
 use Rattle.window.specs.declared.Head.{Head}
-use Rattle.window.specs.Limits.{headHeld}
+use Rattle.window.specs.declared.HeadFields.{HeadFields}
+use Rattle.window.specs.declared.HeadMade.{HeadMade}
+use Rattle.window.specs.declared.HeadMade.the-variants as head
+use Rattle.window.specs.Limits.{headHeld, headOf, headMade}
+use Rattle.window.proofs.Making.{heads}
 use Rattle.runs.specs.Encoding.{canonical}
 use Rattle.agreement.specs.declared.Record.{Record}
 use Rattle.agreement.specs.declared.refusal.Refusal.{Refusal}
@@ -30,10 +34,10 @@ use Rattle.file.specs.Judging.{File, settledReading, refused, taken, set
 -- ---- an absent t
 
 pub tick-absent : (t : WideTick) → t .0 ≡ absent → record { 0 = 0 } ≡ firstTick t
-tick-absent t e = sym (ap (λ b. cond b (record { 0 = 0 }) (record { 0 = t .0 })) (eq-eqb (t .0) absent e))
+tick-absent t e = sym (ap (λ b. cond b (record { 0 = 0 }) t) (eq-eqb (t .0) absent e))
 
-pub tick-there : (t : WideTick) → (t .0 ≡ absent → ⊥) → record { 0 = t .0 } ≡ firstTick t
-tick-there t n = sym (ap (λ b. cond b (record { 0 = 0 }) (record { 0 = t .0 })) (ne-eqb (t .0) absent n))
+pub tick-there : (t : WideTick) → (t .0 ≡ absent → ⊥) → t ≡ firstTick t
+tick-there t n = sym (ap (λ b. cond b (record { 0 = 0 }) t) (ne-eqb (t .0) absent n))
 
 pub standing-absent : (t : WideTick) (next : Tick) → t .0 ≡ absent → Joins ≡ laterStanding t next
 standing-absent t next e = sym (ap (λ b. cond b Joins (tickStanding t next)) (eq-eqb (t .0) absent e))
@@ -86,28 +90,28 @@ appended-by o other s r ws d n m e l c k vs v x j =
 
 -- ---- the head and the end
 
-module _ (r : Reading) (h : Head) (t : Bool) (e : t ≡ headHeld h) where
-  head-by : (ws : List ℕ) → takeHead r ws h ≡ cond t (taken Headed r (freshRecord h (record { 0 = 0 })) ws) (refused refusal.OverLimit r ws)
+module _ (r : Reading) (f : HeadFields) (m : HeadMade) (e : m ≡ headMade f) where
+  head-by : (b : Bool) → headHeld (headOf f) ≡ b → (ws : List ℕ) →
+      takeHead r ws (headOf f) ≡ cond b (taken Headed r (freshRecord (headOf f) (record { 0 = 0 })) ws) (refused refusal.OverLimit r ws)
   unfolding takeHead
-  head-by ws = ap (λ b. cond b (taken Headed r (freshRecord h (record { 0 = 0 })) ws) (refused refusal.OverLimit r ws)) (sym e)
+  head-by b k ws = ap (λ t. cond t (taken Headed r (freshRecord (headOf f) (record { 0 = 0 })) ws) (refused refusal.OverLimit r ws)) k
 
-  pub head-over : not t ≡ true → (x : Reading) → x ≡ record { stage = Refused refusal.OverLimit; lines = r .lines; rec = r .rec } →
-      (ws : List ℕ) → _≡_ {A = File} (record { reading = x; words = ws }) (takeHead r ws h)
-  head-over m x k ws =
-      refused-by r ws refusal.OverLimit x k (takeHead r ws h)
-      (sym (head-by ws ∙ ap (λ b. cond b (taken Headed r (freshRecord h (record { 0 = 0 })) ws) (refused refusal.OverLimit r ws)) (not-true t m)))
+  pub head-over : m ≡ head.Refused → (x : Reading) → x ≡ record { stage = Refused refusal.OverLimit; lines = r .lines; rec = r .rec } →
+      (ws : List ℕ) → _≡_ {A = File} (record { reading = x; words = ws }) (takeHead r ws (headOf f))
+  head-over o x k ws = refused-by r ws refusal.OverLimit x k (takeHead r ws (headOf f)) (sym (head-by false (heads .beyond f m e o) ws))
 
   -- a zero record with the head in it is a fresh one
-  pub head-taken : not t ≡ false → (z : Record) → z ≡ zeroRecord → (x : Reading) →
+  pub head-taken : (h : Head) → m ≡ head.Made h → (z : Record) → z ≡ zeroRecord → (x : Reading) →
       x ≡ record { stage = Headed; lines = r .lines + 1; rec = record { head = h; accepted = z .accepted; dropped = z .dropped; next = z .next; clock = z .clock; used = z .used } } →
-      (ws : List ℕ) → _≡_ {A = File} (record { reading = x; words = ws }) (takeHead r ws h)
-  head-taken m z f x k ws =
+      (ws : List ℕ) → _≡_ {A = File} (record { reading = x; words = ws }) (takeHead r ws (headOf f))
+  head-taken h o z i x k ws =
       ap (λ y. record { reading = y; words = ws })
       (k ∙
-      ap
-      (λ (y : Record). record { stage = Headed; lines = r .lines + 1; rec = record { head = h; accepted = y .accepted; dropped = y .dropped; next = y .next; clock = y .clock; used = y .used } })
-      f) ∙
-      sym (head-by ws ∙ ap (λ b. cond b (taken Headed r (freshRecord h (record { 0 = 0 })) ws) (refused refusal.OverLimit r ws)) (not-false t m))
+      ap₂
+      (λ (g : Head) (y : Record). record { stage = Headed; lines = r .lines + 1; rec = record { head = g; accepted = y .accepted; dropped = y .dropped; next = y .next; clock = y .clock; used = y .used } })
+      (heads .is f m h e o)
+      i) ∙
+      sym (head-by true (heads .within f m h e o) ws)
 
 module _ (r : Reading) (n : ℕ) where
   pub end-wrong : (n ≡ r .lines - 1 → ⊥) → (x : Reading) → x ≡ record { stage = Refused refusal.BadOrder; lines = r .lines; rec = r .rec } →

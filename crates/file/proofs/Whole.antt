@@ -11,7 +11,10 @@ use lib.Seq.{drop-drop}
 use mir.Syntax.{w64}
 use mir.Val.{Fits as FitsWord}
 use Rattle.units.proofs.Guards.{told, refused, allowed, at-most, above, same, other}
+use Rattle.units.specs.Limits.{largestNumber}
 use Rattle.window.specs.declared.Head.{Head}
+use Rattle.window.specs.declared.HeadFields.{HeadFields}
+use Rattle.window.specs.Limits.{fieldsOf}
 use Rattle.runs.specs.declared.Run.{Run}
 use Rattle.runs.specs.Words.{runsOf, keptIn}
 use Rattle.runs.specs.Shape.{shaped}
@@ -62,7 +65,7 @@ module _ (rec : Record) (ws : List ℕ) (a : agrees rec ws ≡ true) where
   used-few : rec .used ≤ 2 ^ 31
   used-few = omega (arith, runs-few (runsOf (rec .used) ws) (runs-shaped (rec .used) ws (facts .table)), runs-length (rec .used) ws, kept-few)
 
-  pub head-fits : Fits (HeadFrame (keptHead rec))
+  pub head-fits : Fits (HeadFrame (fieldsOf (keptHead rec)))
   head-fits =
       let h = facts .held .head in
       record {
@@ -83,26 +86,26 @@ module _ (rec : Record) (ws : List ℕ) (a : agrees rec ws ≡ true) where
   end-fits = record { known = refl; fields = (omega (arith, used-few), tt) }
 
   -- its lines, as they are written
-  file-lines : fileFor rec ws ≡ (endedLine (HeadFrame (keptHead rec)) ++ bytesOf (sFrames (runsOf (rec .used) ws))) ++ endedLine (End (rec .used))
+  file-lines : fileFor rec ws ≡ (endedLine (HeadFrame (fieldsOf (keptHead rec))) ++ bytesOf (sFrames (runsOf (rec .used) ws))) ++ endedLine (End (rec .used))
   unfolding fileOf bytesOf
   file-lines =
       let runs = runsOf (rec .used) ws in
-      ap₂ (λ (rs : List Run) (n : ℕ). endedLine (HeadFrame (keptHead rec)) ++ bytesOf (sFrames rs ++ End n ∷ []))
+      ap₂ (λ (rs : List Run) (n : ℕ). endedLine (HeadFrame (fieldsOf (keptHead rec))) ++ bytesOf (sFrames rs ++ End n ∷ []))
       (encoded runs (runs-shaped (rec .used) ws (facts .table)))
       (runs-for-kept (rec .used) ws (facts .table)) ∙
-      ap (λ bs. endedLine (HeadFrame (keptHead rec)) ++ bs)
+      ap (λ bs. endedLine (HeadFrame (fieldsOf (keptHead rec))) ++ bs)
       (bytes-append (sFrames runs) (End (rec .used) ∷ []) ∙ ap (λ bs. bytesOf (sFrames runs) ++ bs) (append-nil (endedLine (End (rec .used))))) ∙
-      sym (append-assoc (endedLine (HeadFrame (keptHead rec))) (bytesOf (sFrames runs)) (endedLine (End (rec .used))))
+      sym (append-assoc (endedLine (HeadFrame (fieldsOf (keptHead rec)))) (bytesOf (sFrames runs)) (endedLine (End (rec .used))))
 
-  head-long : length (endedLine (HeadFrame (keptHead rec))) ≡ 83
-  head-long = length-ended (HeadFrame (keptHead rec)) head-fits
+  head-long : length (endedLine (HeadFrame (fieldsOf (keptHead rec)))) ≡ 83
+  head-long = length-ended (HeadFrame (fieldsOf (keptHead rec))) head-fits
 
   lines-long : length (bytesOf (sFrames (runsOf (rec .used) ws))) ≡ 35 * rec .used
   lines-long = runs-long (runsOf (rec .used) ws) ∙ ap (λ (n : ℕ). 35 * n) (runs-length (rec .used) ws)
 
   file-length : length (fileFor rec ws) ≡ 83 + 35 * rec .used + 11
   file-length =
-      let head = endedLine (HeadFrame (keptHead rec)) in
+      let head = endedLine (HeadFrame (fieldsOf (keptHead rec))) in
       let lines = bytesOf (sFrames (runsOf (rec .used) ws)) in
       omega (
         arith,
@@ -115,15 +118,18 @@ module _ (rec : Record) (ws : List ℕ) (a : agrees rec ws ≡ true) where
       )
 
   module _ (out : List ℕ) (room : length (fileFor rec ws) ≤ length out) where
-    pub all-number : rec .head .first .0 + rec .dropped < 2 ^ 64
+    pub all-number : rec .head .first .0 + rec .dropped ≤ largestNumber
     all-number = omega (arith, facts .held .numbers, facts .held .dropped)
 
-    module _ (hd : Head) (e : hd ≡ keptHead rec) where
+    module _ (kept-first : Head) (same : kept-first ≡ keptHead rec) (hd : HeadFields) (i : hd ≡ fieldsOf kept-first) where
+      e : hd ≡ fieldsOf (keptHead rec)
+      e = i ∙ ap fieldsOf same
+
       pub all-head : Fits (HeadFrame hd) × (lineLength (kindOf (HeadFrame hd)) < length out)
       all-head = (subst⁻¹ (λ h. Fits (HeadFrame h)) e head-fits, omega (arith, file-length, room))
 
       module _ (n : ℕ) (first : List ℕ) (k : WrittenLine (HeadFrame hd) out first n) where
-        first-is : first ≡ endedLine (HeadFrame (keptHead rec)) ++ drop 83 out
+        first-is : first ≡ endedLine (HeadFrame (fieldsOf (keptHead rec))) ++ drop 83 out
         first-is = k .bytes ∙ ap (λ h. endedLine (HeadFrame h) ++ drop 83 out) e
 
         first-long : length first ≡ length out
@@ -131,7 +137,7 @@ module _ (rec : Record) (ws : List ℕ) (a : agrees rec ws ≡ true) where
             omega (
               arith,
               ap length first-is,
-              length-append (endedLine (HeadFrame (keptHead rec))) (drop 83 out),
+              length-append (endedLine (HeadFrame (fieldsOf (keptHead rec)))) (drop 83 out),
               head-long,
               length-drop 83 out,
               file-length,
@@ -153,19 +159,19 @@ module _ (rec : Record) (ws : List ℕ) (a : agrees rec ws ≡ true) where
           second : List ℕ
           second = putMid n (length first - n) first ys
 
-          second-is : second ≡ (endedLine (HeadFrame (keptHead rec)) ++ bytesOf (sFrames (runsOf (rec .used) ws))) ++ drop (n + m) out
+          second-is : second ≡ (endedLine (HeadFrame (fieldsOf (keptHead rec))) ++ bytesOf (sFrames (runsOf (rec .used) ws))) ++ drop (n + m) out
           unfolding second
           second-is =
               let lines = bytesOf (sFrames (runsOf (rec .used) ws)) in
-              tail-put first (endedLine (HeadFrame (keptHead rec))) (drop 83 out) lines ys n (35 * rec .used) first-is (head-long ∙ sym (k .long)) (j .1) ∙
-              ap (λ bs. (endedLine (HeadFrame (keptHead rec)) ++ lines) ++ bs)
+              tail-put first (endedLine (HeadFrame (fieldsOf (keptHead rec)))) (drop 83 out) lines ys n (35 * rec .used) first-is (head-long ∙ sym (k .long)) (j .1) ∙
+              ap (λ bs. (endedLine (HeadFrame (fieldsOf (keptHead rec))) ++ lines) ++ bs)
               (drop-drop (35 * rec .used) 83 out ∙ ap₂ (λ (x y : ℕ). drop (x + y) out) (sym (k .long)) (sym (j .0)))
 
-          joint : length (endedLine (HeadFrame (keptHead rec)) ++ bytesOf (sFrames (runsOf (rec .used) ws))) ≡ n + m
+          joint : length (endedLine (HeadFrame (fieldsOf (keptHead rec))) ++ bytesOf (sFrames (runsOf (rec .used) ws))) ≡ n + m
           joint =
               omega (
                 arith,
-                length-append (endedLine (HeadFrame (keptHead rec))) (bytesOf (sFrames (runsOf (rec .used) ws))),
+                length-append (endedLine (HeadFrame (fieldsOf (keptHead rec)))) (bytesOf (sFrames (runsOf (rec .used) ws))),
                 head-long,
                 lines-long,
                 k .long,
@@ -177,7 +183,7 @@ module _ (rec : Record) (ws : List ℕ) (a : agrees rec ws ≡ true) where
               omega (
                 arith,
                 ap length second-is,
-                length-append (endedLine (HeadFrame (keptHead rec)) ++ bytesOf (sFrames (runsOf (rec .used) ws))) (drop (n + m) out),
+                length-append (endedLine (HeadFrame (fieldsOf (keptHead rec))) ++ bytesOf (sFrames (runsOf (rec .used) ws))) (drop (n + m) out),
                 joint,
                 length-drop (n + m) out,
                 k .long,
@@ -224,7 +230,7 @@ module _ (rec : Record) (ws : List ℕ) (a : agrees rec ws ≡ true) where
             unfolding second
             all-bytes =
                 let lines = bytesOf (sFrames (runsOf (rec .used) ws)) in
-                tail-put second (endedLine (HeadFrame (keptHead rec)) ++ lines) (drop (n + m) out) (endedLine (End (rec .used))) zs (n + m) 11 second-is joint
+                tail-put second (endedLine (HeadFrame (fieldsOf (keptHead rec))) ++ lines) (drop (n + m) out) (endedLine (End (rec .used))) zs (n + m) 11 second-is joint
                 (q .bytes) ∙
                 ap₂ _++_ (sym file-lines) (drop-drop 11 (n + m) out ∙ ap (λ (x : ℕ). drop (n + m + x) out) (sym (q .long)))
 

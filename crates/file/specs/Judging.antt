@@ -8,11 +8,12 @@ use lib.Dec.{eqb, ltb}
 use lib.ListN.{length, replicate}
 use Rattle.units.specs.declared.Tick.{Tick}
 use Rattle.units.specs.declared.WideTick.{WideTick}
+use Rattle.units.specs.Limits.{tickOf}
 use Rattle.units.specs.declared.standing.Standing.{Standing}
 use Rattle.units.specs.declared.standing.Standing.the-variants.{Joins}
 use Rattle.units.specs.Standing.{tickStanding}
 use Rattle.window.specs.declared.Head.{Head}
-use Rattle.window.specs.Limits.{headHeld}
+use Rattle.window.specs.Limits.{headHeld, headOf}
 use Rattle.window.specs.Place.{endKnown, beforeEnd}
 use Rattle.runs.specs.Encoding.{canonical}
 use Rattle.agreement.specs.declared.Record.{Record}
@@ -71,8 +72,8 @@ abbrev pub absent : ℕ
 absent = 2 ^ 64 - 1
 
 -- the first S opens the timeline at its own t, or at tick 0
-abbrev pub firstTick : WideTick → Tick
-firstTick t = cond (eqb (t .0) absent) (record { 0 = 0 }) (record { 0 = t .0 })
+abbrev pub firstTick : WideTick → WideTick
+firstTick t = cond (eqb (t .0) absent) (record { 0 = 0 }) t
 
 -- a later one joins where t is absent
 abbrev pub laterStanding : WideTick → Tick → Standing
@@ -105,17 +106,17 @@ reachesBy r ws st d =
 unfoldable pub takeS : Reading → List ℕ → Standing → SFields → File
 takeS r ws st s =
     cond (ltb (s .r) firstNegative)
-    (appendedBy (appendOutcome (r .rec) ws st (s .d .0) (s .r + 1)) Open r ws (s .d .0) (s .r + 1))
-    (reachesBy r ws st (s .d .0))
+    (appendedBy (appendOutcome (r .rec) ws st (s .d) (s .r + 1)) Open r ws (s .d) (s .r + 1))
+    (reachesBy r ws st (s .d))
 
 -- the first S: opening at its tick, then what it gives joins
 abbrev pub openedBy : Outcome → Reading → List ℕ → SFields → File
 openedBy outcome.Accepted r ws s =
-    takeS (record { stage = Headed; lines = r .lines; rec = freshRecord (r .rec .head) (firstTick (s .t)) }) (replicate (length ws) 0) Joins s
+    takeS (record { stage = Headed; lines = r .lines; rec = freshRecord (r .rec .head) (tickOf (firstTick (s .t))) }) (replicate (length ws) 0) Joins s
 openedBy (outcome.Refused why) r ws s = refused why r ws
 
 unfoldable pub takeFirstS : Reading → List ℕ → SFields → File
-takeFirstS r ws s = openedBy (openOutcome (r .rec .head) (firstTick (s .t))) r ws s
+takeFirstS r ws s = openedBy (openOutcome (r .rec .head) (tickOf (firstTick (s .t)))) r ws s
 
 abbrev pub takeLaterS : Reading → List ℕ → SFields → File
 takeLaterS r ws s = takeS r ws (laterStanding (s .t) (r .rec .next)) s
@@ -136,7 +137,7 @@ takeEnd r ws n = cond (eqb n (sLines r)) (taken Ended r (r .rec) ws) (refused Ba
 -- ---- which frames may stand where
 
 unfoldable pub onNothing : Reading → List ℕ → Frame → File
-onNothing r ws (HeadFrame h) = takeHead r ws h
+onNothing r ws (HeadFrame f) = takeHead r ws (headOf f)
 onNothing r ws (S s) = refused (misplaced (S s)) r ws
 onNothing r ws (End n) = refused (misplaced (End n)) r ws
 onNothing r ws (Clock c) = refused (misplaced (Clock c)) r ws

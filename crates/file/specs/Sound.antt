@@ -34,7 +34,7 @@ pub record Counted (r : Reading) : Type 0 where
 -- a duration of 32 bits, as every S line has
 abbrev pub Narrow : Frame → Type 0
 Narrow (Head h) = Unit {0}
-Narrow (S s) = s .d .0 ≤ largestSpan
+Narrow (S s) = s .d ≤ largestSpan
 Narrow (End n) = Unit {0}
 Narrow (Clock c) = Unit {0}
 Narrow Bad = Unit {0}

@@ -4,6 +4,7 @@ use mathlib.Core.Path.{_≡_, refl}
 use mathlib.Core.List.{List, [], _∷_, _++_}
 use Prim.Native.Nat.{ℕ}
 use Rattle.hex.specs.Digits.{digitsOf, digitOf}
+use Rattle.window.specs.Limits.{headOf}
 use Rattle.runs.specs.Words.{repeated}
 use Rattle.runs.specs.Encoding.{push, encode}
 use Rattle.agreement.specs.declared.refusal.Refusal.the-variants.{BadLine}
@@ -18,7 +19,7 @@ use Rattle.file.specs.Writing.{laterFrames, sFrames, bytesOf, fileOf}
 
 pub record CaseB : Type 0 where
   pub file :
-      fileOf (headB 3) (repeated 8000 4000 3) ≡
+      fileOf (headOf (headB 3)) (repeated 8000 4000 3) ≡
       ascii "01000003e8000000000000000000000000000000000000000000000000000000000000271000000003" ++
       10 ∷
       ascii "020000000000001f4000000fa000000002" ++

@@ -7,6 +7,7 @@ use mathlib.Core.List.{List, [], _∷_, _++_}
 use lib.Dec.{eqb, leb}
 use lib.ListN.{length, drop}
 use Rattle.window.specs.declared.Head.{Head}
+use Rattle.window.specs.Limits.{fieldsOf}
 use Rattle.window.specs.declared.Reference.{Reference}
 use Rattle.runs.specs.declared.Run.{Run}
 use Rattle.runs.specs.Encoding.{encode, runsFor}
@@ -28,7 +29,7 @@ numbered h n =
 
 -- the S line of a run: r is one less than its count
 abbrev pub sFrame : ℕ → Run → Frame
-sFrame t r = S (record { t = record { 0 = t }; d = r .span; r = r .count - 1 })
+sFrame t r = S (record { t = record { 0 = t }; d = r .span .0; r = r .count - 1 })
 
 unfoldable pub laterFrames : List Run → List Frame
 laterFrames [] = []
@@ -45,7 +46,7 @@ bytesOf (f ∷ fs) = endedLine f ++ bytesOf fs
 
 -- the file of references under a head, which has the number of the first
 unfoldable pub fileOf : Head → List Reference → List ℕ
-fileOf h rs = bytesOf (HeadFrame h ∷ sFrames (encode rs) ++ End (runsFor rs) ∷ [])
+fileOf h rs = bytesOf (HeadFrame (fieldsOf h) ∷ sFrames (encode rs) ++ End (runsFor rs) ∷ [])
 
 -- the file of what record and table keep: the first kept reference has the first number plus those dropped
 abbrev pub keptHead : Record → Head

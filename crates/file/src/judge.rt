@@ -17,9 +17,12 @@ use frames::SFields;
 use keeping::Changed;
 use keeping::Outcome;
 use units::Span;
+use units::SpanMade;
 use units::Standing;
 use units::Tick;
 use units::WideTick;
+use window::Head;
+use window::HeadMade;
 
 // As a signed number r is negative from here on.
 const FIRST_NEGATIVE: u64 = 2_147_483_648;
@@ -60,13 +63,13 @@ fn misplaced(frame: Frame) -> Refusal
     }
 }
 
-fn first_tick(t: WideTick) -> Tick
+fn first_tick(t: WideTick) -> WideTick
     ensures { λ r. ⌜ r ≡ firstTick t ⌝ }
 {
     if t.0 == ABSENT {
-        return Tick(0);
+        return WideTick(0);
     }
-    Tick(t.0)
+    t
 }
 
 fn later_standing(t: WideTick, next: Tick) -> Standing
@@ -110,18 +113,18 @@ fn reach_end(reading: Reading, table: &mut [u64], span: Span) -> Reading
 // Inner: callers show that record and table agree and that the duration is one of 32 bits. What an S
 // line that joins gives is appended.
 fn take_s(reading: Reading, table: &mut [u64], standing: Standing, s: SFields) -> Reading
-    requires { ⌜ Running reading (now table) × (s .d .0 ≤ largestSpan) ⌝ }
+    requires { ⌜ Running reading (now table) × (s .d ≤ largestSpan) ⌝ }
     ensures { λ r. ⌜ record { reading = r; words = now (table .exit) } ≡ takeS reading (now (table .entry)) standing s ⌝ }
 {
-    if s.d.0 == 0 {
+    let SpanMade::Made(span) = Span::new(s.d) else {
         return refuse(reading, Refusal::NothingGiven);
-    }
+    };
     match standing {
         Standing::Joins => {
             if FIRST_NEGATIVE <= s.r {
-                return reach_end(reading, table, s.d);
+                return reach_end(reading, table, span);
             }
-            let changed = keeping::append_joined(reading.rec, table, s.d, s.r + 1);
+            let changed = keeping::append_joined(reading.rec, table, span, s.r + 1);
             settle(reading, Stage::Open, changed)
         }
         Standing::Gap => refuse(reading, Refusal::Gap),
@@ -146,12 +149,12 @@ fn on_nothing(reading: Reading, frame: Frame) -> Reading
     requires { ⌜ reading .lines ≡ 0 ⌝ }
     ensures { λ r. ⌜ ((ws : List ℕ) → _≡_ {A = File} (record { reading = r; words = ws }) (onNothing reading ws frame)) ⌝ }
 {
-    let Frame::Head(head) = frame else {
+    let Frame::Head(fields) = frame else {
         return refuse(reading, misplaced(frame));
     };
-    if !head.held() {
+    let HeadMade::Made(head) = Head::new(fields) else {
         return refuse(reading, Refusal::OverLimit);
-    }
+    };
     let mut rec = timeline::zero_record();
     rec.head = head;
     take(reading, Stage::Headed, rec)
@@ -166,7 +169,7 @@ fn on_headed(reading: Reading, table: &mut [u64], frame: Frame) -> Reading
     let Frame::S(s) = frame else {
         return refuse(reading, misplaced(frame));
     };
-    let opened = timeline::open(reading.rec.head, first_tick(s.t), table);
+    let opened = timeline::open(reading.rec.head.fields(), first_tick(s.t), table);
     let outcome = opened.outcome;
     match outcome {
         Outcome::Accepted => {

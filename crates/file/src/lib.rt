@@ -1,5 +1,7 @@
 // The whole file: read into a table as opening plus appends, at once or piece by piece, and written
 // from what a record and a table keep.
+ghost use mathlib.Core.Path.{_≡_};
+ghost use Rattle.file.specs.Writing.{writeNumber};
 use agreement::Record;
 use agreement::Refusal;
 use keeping::Outcome;
@@ -56,4 +58,16 @@ pub struct ReadAnswer {
 pub enum WriteAnswer {
     Written(usize),
     Refused(Refusal),
+}
+
+impl WriteAnswer {
+    // The paper's number, 0 where the file is written.
+    pub fn number(self) -> u32
+        ensures { λ r. ⌜ r ≡ writeNumber self ⌝ }
+    {
+        match self {
+            WriteAnswer::Written(_) => 0,
+            WriteAnswer::Refused(why) => why.number(),
+        }
+    }
 }

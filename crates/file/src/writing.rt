@@ -5,6 +5,7 @@ ghost use mathlib.Core.List.{_++_};
 ghost use Prim.Native.Nat.{_+_, _*_, _≤_, _<_, _^_};
 ghost use lib.Dec.{eqb};
 ghost use lib.ListN.{length, drop};
+ghost use Rattle.units.specs.Limits.{largestNumber};
 ghost use Rattle.runs.specs.Words.{runAt, runsOf, keptIn};
 ghost use Rattle.runs.specs.Shape.{shaped};
 ghost use Rattle.agreement.specs.Agreement.{agrees};
@@ -25,9 +26,9 @@ const HEAD_AND_END_BYTES: usize = 94;
 
 const S_BYTES: usize = 35;
 
-// Inner: callers show that the number fits. The head with the number of the first kept reference.
+// Inner: callers show that the number is held. The head with the number of the first kept reference.
 fn kept_head(rec: Record) -> Head
-    requires { ⌜ rec .head .first .0 + rec .dropped < 2 ^ 64 ⌝ }
+    requires { ⌜ rec .head .first .0 + rec .dropped ≤ largestNumber ⌝ }
     ensures { λ r. ⌜ r ≡ keptHead rec ⌝ }
 {
     let first = Number(rec.head.first.0 + rec.dropped);
@@ -42,7 +43,7 @@ fn s_frame(table: &[u64], i: usize) -> Frame
     ensures { λ r. ⌜ r ≡ sFrame (cond (eqb i 0) (runAt (now (table .entry)) (i * 3) .start .0) absent) (runAt (now (table .entry)) (i * 3)) ⌝ }
 {
     let run = runs::table::run_at(table, i * 3);
-    let d = run.span;
+    let d = run.span.0;
     let r = run.count - 1;
     if i == 0 {
         let t = WideTick(run.start.0);
@@ -72,7 +73,8 @@ fn write_all(rec: Record, table: &[u64], out: &mut [u8]) -> usize
     ensures { λ r. ⌜ (r ≡ length (fileFor rec (now (table .entry)))) × (now (out .exit) ≡ fileFor rec (now (table .entry)) ++ drop r (now (out .entry))) ⌝ }
 {
     let used = rec.used;
-    let head = frames::write_line(out, Frame::Head(kept_head(rec)));
+    let first = kept_head(rec);
+    let head = frames::write_line(out, Frame::Head(first.fields()));
     let runs = write_runs(table, used, &mut out[head..]);
     let at = head + runs;
     at + frames::write_line(&mut out[at..], Frame::End(used as u64))

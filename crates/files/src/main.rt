@@ -7,12 +7,9 @@ ghost use Prim.Native.Nat.{min, _≤_};
 use agreement::Record;
 use file::ReadAnswer;
 use libc::STDOUT_FILENO;
-use units::Millis;
-use units::Number;
-use units::Tick;
-use units::Timescale;
+use units::WideMillis;
 use units::WideTick;
-use window::Head;
+use window::HeadFields;
 
 mod show;
 
@@ -33,17 +30,17 @@ fn smaller(a: usize, b: usize) -> usize
 // Case B after its trim at 18,000.
 fn case_b() {
     let mut table = [0u64; WORDS];
-    let head = Head {
-        timescale: Timescale(1000),
-        offset: Tick(0),
-        start: Millis(0),
-        duration: Millis(0),
-        depth: Millis(10000),
-        first: Number(1),
+    let fields = HeadFields {
+        timescale: 1000,
+        offset: 0,
+        start: 0,
+        duration: 0,
+        depth: 10000,
+        first: 1,
     };
-    let opened = timeline::open(head, Tick(0), &mut table);
+    let opened = timeline::open(fields, WideTick(0), &mut table);
     let filled = timeline::append(opened.rec, &mut table, WideTick(0), 4000, 5);
-    let trimmed = timeline::trim(filled.rec, &mut table, Millis(18000));
+    let trimmed = timeline::trim(filled.rec, &mut table, WideMillis(18000));
     put_file(trimmed.rec, &table);
 }
 

@@ -45,8 +45,8 @@ pub(crate) fn put_file(rec: Record, table: &[u64]) {
         WriteAnswer::Written(length) => {
             io::write_all(STDOUT_FILENO, &out[..length]);
         }
-        WriteAnswer::Refused(why) => {
-            put(b"refused ", why.number() as u64);
+        WriteAnswer::Refused(_) => {
+            put(b"refused ", written.number() as u64);
             io::write_all(STDOUT_FILENO, b"\n");
         }
     }

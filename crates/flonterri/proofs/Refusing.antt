@@ -9,7 +9,7 @@ use borrow.Author.Tests.{eqb-true}
 use lib.Dec.{eqb}
 use lib.IntN.{ℤ}
 use lib.ListN.{length, replicate}
-use Rattle.units.specs.declared.Millis.{Millis}
+use Rattle.units.specs.declared.WideMillis.{WideMillis}
 use Rattle.units.specs.Standing.{tickStanding, stampStanding}
 use Rattle.agreement.specs.declared.Record.{Record}
 use Rattle.keeping.specs.declared.Outcome.{Outcome}
@@ -34,7 +34,7 @@ use Rattle.file.specs.declared.WriteAnswer.the-variants as written
 use Rattle.file.specs.Judging.{readLines, readOutcome, answeredBy, readAnswer, readTable, zeroed}
 use Rattle.file.specs.Writing.{writeAnswer, outputBy, fileFor}
 use Rattle.flonterri.specs.Words.{recordWords, recordOf, wordsOf, headWith}
-use Rattle.flonterri.specs.Tells.{Tells, verdictTells, availabilityTells, touchingTells, writeTells}
+use Rattle.flonterri.specs.Tells.{Tells, verdictOut, verdictTells, availabilityOut, availabilityTells, touchingOut, touchingTells, writeOut, writeTells}
 use Rattle.flonterri.specs.Face.{wrongRecord, wrongLength, guarded, Changes, changes, opens, appends, appendsStamp, trims, tells, tellsVerdict, tellsWhole, tellsAvailability, tellsTouching, Reads, readsBy, reads, Writes, writesBy, writes}
 use Rattle.flonterri.proofs.Words.{words-record}
 use Rattle.flonterri.proofs.Lengths.{both-right, behind}
@@ -104,20 +104,20 @@ module _ (ws ts : List ℕ) where
 
 -- what an answer that is refused tells: nothing
 pub verdict-silent : (v : Verdict) (out : List ℕ) → (verdictTells v out .number ≡ 0 → ⊥) → verdictTells v out .out ≡ out
-unfolding verdictTells
+unfolding verdictTells verdictOut
 verdict-silent verdict.Nothing out k = absurd (k refl)
 verdict-silent (verdict.Complete n) out k = absurd (k refl)
 verdict-silent (verdict.Lacking n m t) out k = absurd (k refl)
 verdict-silent (verdict.Refused why) out k = refl
 
 pub availability-silent : (v : Availability) (out : List ℤ) → (availabilityTells v out .number ≡ 0 → ⊥) → availabilityTells v out .out ≡ out
-unfolding availabilityTells
+unfolding availabilityTells availabilityOut
 availability-silent (availability.NeverEnds a) out k = absurd (k refl)
 availability-silent (availability.Ends a b) out k = absurd (k refl)
 availability-silent (availability.Refused why) out k = refl
 
 pub touching-silent : (v : Touching) (out : List ℕ) → (touchingTells v out .number ≡ 0 → ⊥) → touchingTells v out .out ≡ out
-unfolding touchingTells
+unfolding touchingTells touchingOut
 touching-silent (touching.Words a b) out k = absurd (k refl)
 touching-silent (touching.Refused why) out k = refl
 
@@ -192,7 +192,7 @@ pub write-refused :
     (ws ts bytes out : List ℕ)
     → (writes ws ts bytes out .number ≡ 0 → ⊥)
     → (writes ws ts bytes out .bytes ≡ bytes) × (writes ws ts bytes out .out ≡ out)
-unfolding writes writesBy guarded outputBy writeTells
+unfolding writes writesBy guarded outputBy writeTells writeOut
 write-refused ws ts bytes out k = go (eqb (wrongLength (length ws) (length out) 1) 0) (writeAnswer (recordOf ws) ts (length bytes)) k
   where
     at : Bool → WriteAnswer → Writes
@@ -213,12 +213,12 @@ hundred-word (Of n) e = eqb-true n 100 e
 hundred-word Undefined e = absurd (false≢true e)
 
 complete-words : (v : Verdict) (n : ℕ) (out : List ℕ) → hundred (verdictPercent v) ≡ complete v → v ≡ verdict.Complete n → verdictTells v out .out ≡ 1 ∷ n ∷ n ∷ 0 ∷ 100 ∷ []
-unfolding verdictTells
+unfolding verdictTells verdictOut
 complete-words v n out h e =
     ap (λ y. verdictTells y out .out) e ∙ ap (λ p. 1 ∷ n ∷ n ∷ 0 ∷ p ∷ []) (hundred-word (verdictPercent (verdict.Complete n)) (ap (λ y. hundred (verdictPercent y)) (sym e) ∙ h ∙ ap complete e))
 
 pub complete-at :
-    (rec : Record) (ts : List ℕ) (c : Millis) (n : ℕ) (out : List ℕ)
+    (rec : Record) (ts : List ℕ) (c : WideMillis) (n : ℕ) (out : List ℕ)
     → verdictAt rec ts c ≡ verdict.Complete n
     → verdictTells (verdictAt rec ts c) out .out ≡ 1 ∷ n ∷ n ∷ 0 ∷ 100 ∷ []
 complete-at rec ts c n out e = complete-words (verdictAt rec ts c) n out (percent-at rec ts c) e

@@ -1,52 +1,57 @@
--- What an answer tells in the caller's out: its words, with 0 for what does not apply, and the number 0; refused, the paper's number, and out stays
--- as it came. Paper: Verdict and availability; Refusal numbers.
+-- What an answer tells: the paper's number of it, 0 where it is not refused, and in the caller's out its words, with 0 for what does not apply; refused,
+-- out stays as it came. Paper: Verdict and availability; Refusal numbers.
 use Prim.Native.Nat.{ℕ}
 use mathlib.Core.List.{List, [], _∷_}
 use lib.IntN.{ℤ, pos}
-use Rattle.agreement.specs.declared.refusal.Refusal.{Refusal}
-use Rattle.agreement.specs.Numbers.{refusalNumber}
 use Rattle.answers.specs.declared.Verdict.{Verdict}
 use Rattle.answers.specs.declared.Verdict.the-variants as verdict
 use Rattle.answers.specs.declared.Availability.{Availability}
 use Rattle.answers.specs.declared.Availability.the-variants as availability
 use Rattle.answers.specs.declared.Touching.{Touching}
 use Rattle.answers.specs.declared.Touching.the-variants as touching
+use Rattle.answers.specs.Numbers.{verdictNumber, availabilityNumber, touchingNumber}
 use Rattle.answers.specs.Shares.{verdictPercent, percentNumber}
 use Rattle.file.specs.declared.WriteAnswer.{WriteAnswer}
 use Rattle.file.specs.declared.WriteAnswer.the-variants as written
+use Rattle.file.specs.Writing.{writeNumber}
 
 -- the number, and the words of out
 pub record Tells (A : Type 0) : Type 0 where
   pub number : ℕ
   pub out : List A
 
-abbrev pub told : {A : Type 0} → List A → Tells A
-told words = record { number = 0; out = words }
-
--- refused: out as it came
-abbrev pub silent : {A : Type 0} → List A → Refusal → Tells A
-silent out why = record { number = refusalNumber why; out = out }
-
 -- kind (0 nothing needed, 1 complete, 2 lacking), needed, covered, lowest, percent
+unfoldable pub verdictOut : Verdict → List ℕ → List ℕ
+verdictOut verdict.Nothing out = 0 ∷ 0 ∷ 0 ∷ 0 ∷ 0 ∷ []
+verdictOut (verdict.Complete needed) out = 1 ∷ needed ∷ needed ∷ 0 ∷ percentNumber (verdictPercent (verdict.Complete needed)) ∷ []
+verdictOut (verdict.Lacking needed covered lowest) out =
+    2 ∷ needed ∷ covered ∷ lowest .0 ∷ percentNumber (verdictPercent (verdict.Lacking needed covered lowest)) ∷ []
+verdictOut (verdict.Refused why) out = out
+
 unfoldable pub verdictTells : Verdict → List ℕ → Tells ℕ
-verdictTells verdict.Nothing out = told (0 ∷ 0 ∷ 0 ∷ 0 ∷ 0 ∷ [])
-verdictTells (verdict.Complete needed) out = told (1 ∷ needed ∷ needed ∷ 0 ∷ percentNumber (verdictPercent (verdict.Complete needed)) ∷ [])
-verdictTells (verdict.Lacking needed covered lowest) out =
-    told (2 ∷ needed ∷ covered ∷ lowest .0 ∷ percentNumber (verdictPercent (verdict.Lacking needed covered lowest)) ∷ [])
-verdictTells (verdict.Refused why) out = silent out why
+verdictTells v out = record { number = verdictNumber v; out = verdictOut v out }
 
 -- kind (0 never ends, 1 ends), start, end in signed grains
+unfoldable pub availabilityOut : Availability → List ℤ → List ℤ
+availabilityOut (availability.NeverEnds from) out = pos 0 ∷ from .0 ∷ pos 0 ∷ []
+availabilityOut (availability.Ends from upto) out = pos 1 ∷ from .0 ∷ upto .0 ∷ []
+availabilityOut (availability.Refused why) out = out
+
 unfoldable pub availabilityTells : Availability → List ℤ → Tells ℤ
-availabilityTells (availability.NeverEnds from) out = told (pos 0 ∷ from .0 ∷ pos 0 ∷ [])
-availabilityTells (availability.Ends from upto) out = told (pos 1 ∷ from .0 ∷ upto .0 ∷ [])
-availabilityTells (availability.Refused why) out = silent out why
+availabilityTells a out = record { number = availabilityNumber a; out = availabilityOut a out }
 
 -- the first word of the touching runs, and the one past their last
+unfoldable pub touchingOut : Touching → List ℕ → List ℕ
+touchingOut (touching.Words from to) out = from ∷ to ∷ []
+touchingOut (touching.Refused why) out = out
+
 unfoldable pub touchingTells : Touching → List ℕ → Tells ℕ
-touchingTells (touching.Words from to) out = told (from ∷ to ∷ [])
-touchingTells (touching.Refused why) out = silent out why
+touchingTells t out = record { number = touchingNumber t; out = touchingOut t out }
 
 -- the length written
+unfoldable pub writeOut : WriteAnswer → List ℕ → List ℕ
+writeOut (written.Written n) out = n ∷ []
+writeOut (written.Refused why) out = out
+
 unfoldable pub writeTells : WriteAnswer → List ℕ → Tells ℕ
-writeTells (written.Written n) out = told (n ∷ [])
-writeTells (written.Refused why) out = silent out why
+writeTells w out = record { number = writeNumber w; out = writeOut w out }

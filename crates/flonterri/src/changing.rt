@@ -2,13 +2,12 @@
 ghost use mathlib.Core.Path.{_≡_};
 ghost use Rattle.flonterri.specs.Face.{opens, appends, appendsStamp, trims};
 use crate::packing::give_back;
-use crate::packing::head_with;
 use crate::packing::record_of;
 use crate::packing::wrong_record;
-use units::Millis;
 use units::Stamp;
-use units::Tick;
+use units::WideMillis;
 use units::WideTick;
+use window::HeadFields;
 
 // Opens a timeline over a table.
 #[no_mangle]
@@ -31,10 +30,15 @@ pub extern "C" fn flonterri_open(
     if wrong != 0 {
         return wrong;
     }
-    let scale = timescale as u64;
-    let first = first_number as u64;
-    let head = head_with(scale, offset, start, duration, depth, first);
-    let changed = timeline::open(head, Tick(first_tick), table);
+    let fields = HeadFields {
+        timescale: timescale as u64,
+        offset,
+        start,
+        duration,
+        depth,
+        first: first_number as u64,
+    };
+    let changed = timeline::open(fields, WideTick(first_tick), table);
     give_back(record, changed)
 }
 
@@ -94,6 +98,6 @@ pub extern "C" fn flonterri_trim(record: &mut [u64], table: &mut [u64], clock: u
         return wrong;
     }
     let rec = record_of(record);
-    let changed = timeline::trim(rec, table, Millis(clock));
+    let changed = timeline::trim(rec, table, WideMillis(clock));
     give_back(record, changed)
 }

@@ -3,7 +3,8 @@ ghost use mathlib.Core.Path.{_≡_};
 ghost use lib.ListN.{length, set};
 ghost use Rattle.keeping.specs.Keeping.{outcomeNumber};
 ghost use Rattle.flonterri.specs.Words.{wordsOf};
-ghost use Rattle.flonterri.specs.Tells.{writeTells};
+ghost use Rattle.file.specs.Writing.{writeNumber};
+ghost use Rattle.flonterri.specs.Tells.{writeOut};
 ghost use Rattle.flonterri.specs.Face.{reads, writes};
 use crate::packing::put_record;
 use crate::packing::record_of;
@@ -15,19 +16,25 @@ const LINE_WORDS: usize = 1;
 
 const LENGTH_WORDS: usize = 1;
 
-// Inner, since out must have its length: puts the length written there, and answers the number.
-fn tell_written(out: &mut [u64], answer: WriteAnswer) -> u32
+// Inner, since out must have its length: puts the length written there.
+fn put_written(out: &mut [u64], answer: WriteAnswer)
     requires { ⌜ length (now out) ≡ 1 ⌝ }
-    ensures { λ r. ⌜ r ≡ writeTells answer (now (out .entry)) .number ⌝ }
-    ensures { λ _. ⌜ now (out .exit) ≡ writeTells answer (now (out .entry)) .out ⌝ }
+    ensures { λ _. ⌜ now (out .exit) ≡ writeOut answer (now (out .entry)) ⌝ }
 {
     match answer {
-        WriteAnswer::Written(size) => {
-            out[0] = size as u64;
-            0
-        }
-        WriteAnswer::Refused(why) => why.number(),
+        WriteAnswer::Written(size) => out[0] = size as u64,
+        WriteAnswer::Refused(_) => {}
     }
+}
+
+// Inner, as above: puts the length there, and answers the number.
+fn tell_written(out: &mut [u64], answer: WriteAnswer) -> u32
+    requires { ⌜ length (now out) ≡ 1 ⌝ }
+    ensures { λ r. ⌜ r ≡ writeNumber answer ⌝ }
+    ensures { λ _. ⌜ now (out .exit) ≡ writeOut answer (now (out .entry)) ⌝ }
+{
+    put_written(out, answer);
+    answer.number()
 }
 
 // Inner, since record and out must have their lengths: writes back the record of a reading and its line,

@@ -3,7 +3,8 @@
 ghost use mathlib.Core.Path.{_≡_};
 ghost use mathlib.Core.List.{[], _∷_};
 ghost use lib.ListN.{length};
-ghost use Rattle.flonterri.specs.Tells.{verdictTells, availabilityTells, touchingTells};
+ghost use Rattle.answers.specs.Numbers.{verdictNumber, availabilityNumber, touchingNumber};
+ghost use Rattle.flonterri.specs.Tells.{verdictOut, availabilityOut, touchingOut};
 ghost use Rattle.flonterri.specs.Face.{tellsVerdict, tellsWhole, tellsAvailability, tellsTouching};
 use crate::packing::record_of;
 use crate::packing::wrong_length;
@@ -13,8 +14,8 @@ use answers::Verdict;
 use answers::spans;
 use answers::times;
 use answers::verdicts;
-use units::Millis;
-use units::Number;
+use units::WideMillis;
+use units::WideNumber;
 use units::WideTick;
 
 const VERDICT_WORDS: usize = 5;
@@ -54,11 +55,10 @@ fn put_two(out: &mut [u64], first: u64, last: u64)
     out[1] = last;
 }
 
-// Inner, since out must have its length: puts a verdict there, and answers its number.
-fn tell_verdict(out: &mut [u64], verdict: Verdict) -> u32
+// Inner, since out must have its length: puts a verdict there.
+fn put_verdict(out: &mut [u64], verdict: Verdict)
     requires { ⌜ length (now out) ≡ 5 ⌝ }
-    ensures { λ r. ⌜ r ≡ verdictTells verdict (now (out .entry)) .number ⌝ }
-    ensures { λ _. ⌜ now (out .exit) ≡ verdictTells verdict (now (out .entry)) .out ⌝ }
+    ensures { λ _. ⌜ now (out .exit) ≡ verdictOut verdict (now (out .entry)) ⌝ }
 {
     let percent = verdict.percent().number();
     match verdict {
@@ -67,36 +67,61 @@ fn tell_verdict(out: &mut [u64], verdict: Verdict) -> u32
         Verdict::Lacking(needed, covered, lowest) => {
             put_five(out, 2, needed, covered, lowest.0, percent)
         }
-        Verdict::Refused(why) => return why.number(),
+        Verdict::Refused(_) => {}
     }
-    0
 }
 
-// Inner, since out must have its length: puts the points there, and answers the number.
-fn tell_availability(out: &mut [i64], availability: Availability) -> u32
+// Inner, as above: puts a verdict there, and answers its number.
+fn tell_verdict(out: &mut [u64], verdict: Verdict) -> u32
+    requires { ⌜ length (now out) ≡ 5 ⌝ }
+    ensures { λ r. ⌜ r ≡ verdictNumber verdict ⌝ }
+    ensures { λ _. ⌜ now (out .exit) ≡ verdictOut verdict (now (out .entry)) ⌝ }
+{
+    put_verdict(out, verdict);
+    verdict.number()
+}
+
+// Inner, since out must have its length: puts the points there.
+fn put_availability(out: &mut [i64], availability: Availability)
     requires { ⌜ length (now out) ≡ 3 ⌝ }
-    ensures { λ r. ⌜ r ≡ availabilityTells availability (now (out .entry)) .number ⌝ }
-    ensures { λ _. ⌜ now (out .exit) ≡ availabilityTells availability (now (out .entry)) .out ⌝ }
+    ensures { λ _. ⌜ now (out .exit) ≡ availabilityOut availability (now (out .entry)) ⌝ }
 {
     match availability {
         Availability::NeverEnds(from) => put_three(out, 0, from.0, 0),
         Availability::Ends(from, upto) => put_three(out, 1, from.0, upto.0),
-        Availability::Refused(why) => return why.number(),
+        Availability::Refused(_) => {}
     }
-    0
 }
 
-// Inner, since out must have its length: puts the words there, and answers the number.
-fn tell_touching(out: &mut [u64], touching: Touching) -> u32
+// Inner, as above: puts the points there, and answers the number.
+fn tell_availability(out: &mut [i64], availability: Availability) -> u32
+    requires { ⌜ length (now out) ≡ 3 ⌝ }
+    ensures { λ r. ⌜ r ≡ availabilityNumber availability ⌝ }
+    ensures { λ _. ⌜ now (out .exit) ≡ availabilityOut availability (now (out .entry)) ⌝ }
+{
+    put_availability(out, availability);
+    availability.number()
+}
+
+// Inner, since out must have its length: puts the words there.
+fn put_touching(out: &mut [u64], touching: Touching)
     requires { ⌜ length (now out) ≡ 2 ⌝ }
-    ensures { λ r. ⌜ r ≡ touchingTells touching (now (out .entry)) .number ⌝ }
-    ensures { λ _. ⌜ now (out .exit) ≡ touchingTells touching (now (out .entry)) .out ⌝ }
+    ensures { λ _. ⌜ now (out .exit) ≡ touchingOut touching (now (out .entry)) ⌝ }
 {
     match touching {
         Touching::Words(from, to) => put_two(out, from as u64, to as u64),
-        Touching::Refused(why) => return why.number(),
+        Touching::Refused(_) => {}
     }
-    0
+}
+
+// Inner, as above: puts the words there, and answers the number.
+fn tell_touching(out: &mut [u64], touching: Touching) -> u32
+    requires { ⌜ length (now out) ≡ 2 ⌝ }
+    ensures { λ r. ⌜ r ≡ touchingNumber touching ⌝ }
+    ensures { λ _. ⌜ now (out .exit) ≡ touchingOut touching (now (out .entry)) ⌝ }
+{
+    put_touching(out, touching);
+    touching.number()
 }
 
 // The verdict at a clock.
@@ -114,7 +139,7 @@ pub extern "C" fn flonterri_verdict(
     if wrong != 0 {
         return wrong;
     }
-    let verdict = verdicts::verdict(record_of(record), table, Millis(clock));
+    let verdict = verdicts::verdict(record_of(record), table, WideMillis(clock));
     tell_verdict(out, verdict)
 }
 
@@ -147,7 +172,7 @@ pub extern "C" fn flonterri_availability(
     if wrong != 0 {
         return wrong;
     }
-    let availability = times::availability(record_of(record), table, Number(number));
+    let availability = times::availability(record_of(record), table, WideNumber(number));
     tell_availability(out, availability)
 }
 

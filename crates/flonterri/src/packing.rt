@@ -39,15 +39,8 @@ pub(crate) fn wrong_length(words: usize, out: usize, size: usize) -> u32
     0
 }
 
-// The head of any six numbers.
-pub(crate) fn head_with(
-    timescale: u64,
-    offset: u64,
-    start: u64,
-    duration: u64,
-    depth: u64,
-    first: u64,
-) -> Head
+// The head that six words of a record mean: agreement judges them.
+fn head_with(timescale: u64, offset: u64, start: u64, duration: u64, depth: u64, first: u64) -> Head
     ensures { λ r. ⌜ r ≡ headWith timescale offset start duration depth first ⌝ }
 {
     Head {

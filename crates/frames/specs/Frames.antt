@@ -38,8 +38,8 @@ kindOf (Clock c) = 4
 kindOf Bad = 0
 
 abbrev pub valuesOf : Frame → List ℕ
-valuesOf (Head h) = h .timescale .0 ∷ h .offset .0 ∷ h .start .0 ∷ h .duration .0 ∷ h .depth .0 ∷ h .first .0 ∷ []
-valuesOf (S s) = s .t .0 ∷ s .d .0 ∷ s .r ∷ []
+valuesOf (Head h) = h .timescale ∷ h .offset ∷ h .start ∷ h .duration ∷ h .depth ∷ h .first ∷ []
+valuesOf (S s) = s .t .0 ∷ s .d ∷ s .r ∷ []
 valuesOf (End n) = n ∷ []
 valuesOf (Clock c) = c .0 ∷ []
 valuesOf Bad = []
@@ -50,15 +50,15 @@ frameFrom k vs =
     cond (eqb k 1)
     (Head
     (record {
-      timescale = record { 0 = getD vs 0 0 };
-      offset = record { 0 = getD vs 1 0 };
-      start = record { 0 = getD vs 2 0 };
-      duration = record { 0 = getD vs 3 0 };
-      depth = record { 0 = getD vs 4 0 };
-      first = record { 0 = getD vs 5 0 };
+      timescale = getD vs 0 0;
+      offset = getD vs 1 0;
+      start = getD vs 2 0;
+      duration = getD vs 3 0;
+      depth = getD vs 4 0;
+      first = getD vs 5 0;
     }))
     (cond (eqb k 2)
-    (S (record { t = record { 0 = getD vs 0 0 }; d = record { 0 = getD vs 1 0 }; r = getD vs 2 0 }))
+    (S (record { t = record { 0 = getD vs 0 0 }; d = getD vs 1 0; r = getD vs 2 0 }))
     (cond (eqb k 3) (End (getD vs 0 0)) (cond (eqb k 4) (Clock (record { 0 = getD vs 0 0 })) Bad)))
 
 abbrev pub isFrame : Frame → Bool

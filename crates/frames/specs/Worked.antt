@@ -6,7 +6,7 @@ use Prim.Native.Nat.{ℕ}
 use Prim.Native.Char.{code}
 use Prim.Native.String as text
 use Rattle.hex.specs.Digits.{between, isDigit, valueOf, areDigits, numberOf}
-use Rattle.window.specs.declared.Head.{Head}
+use Rattle.window.specs.declared.HeadFields.{HeadFields}
 use Rattle.frames.specs.Fields.{fieldValues}
 use Rattle.frames.specs.Frames.{lineLength, frameAs, frameOf}
 use Rattle.frames.specs.declared.Frame.the-variants.{Head as HeadFrame, S, End}
@@ -16,17 +16,9 @@ unfoldable pub bytesOf : text.String → List ℕ
 bytesOf text.[] = []
 bytesOf (text._∷_ c cs) = code c ∷ bytesOf cs
 
--- the head of case B, where the first reference has number n
-abbrev pub headB : ℕ → Head
-headB n =
-    record {
-      timescale = record { 0 = 1000 };
-      offset = record { 0 = 0 };
-      start = record { 0 = 0 };
-      duration = record { 0 = 0 };
-      depth = record { 0 = 10_000 };
-      first = record { 0 = n };
-    }
+-- the head fields of case B, where the first reference has number n
+abbrev pub headB : ℕ → HeadFields
+headB n = record { timescale = 1000; offset = 0; start = 0; duration = 0; depth = 10_000; first = n }
 
 pub record CaseB : Type 0 where
   pub head-length : lineLength 1 ≡ 82
@@ -35,7 +27,7 @@ pub record CaseB : Type 0 where
       HeadFrame (headB 3)
   pub s :
       frameOf (bytesOf "020000000000001f4000000fa000000002") ≡
-      S (record { t = record { 0 = 8000 }; d = record { 0 = 4000 }; r = 2 })
+      S (record { t = record { 0 = 8000 }; d = 4000; r = 2 })
   pub end : frameOf (bytesOf "0300000001") ≡ End 1
 
 pub case-b : CaseB

@@ -6,13 +6,9 @@ ghost use Rattle.frames.specs.Frames.{lineLength, frameAs};
 use crate::Frame;
 use crate::SFields;
 use crate::fields;
-use units::Millis;
-use units::Number;
-use units::Span;
-use units::Tick;
-use units::Timescale;
+use units::WideMillis;
 use units::WideTick;
-use window::Head;
+use window::HeadFields;
 
 pub(crate) const HEAD_WIDTHS: [usize; 7] = [1, 4, 8, 8, 8, 8, 4];
 
@@ -44,13 +40,13 @@ fn read_head(line: &[u8]) -> Frame
 {
     let mut v = [0u64; 7];
     fields::read_fields(line, &HEAD_WIDTHS, &mut v);
-    Frame::Head(Head {
-        timescale: Timescale(v[1]),
-        offset: Tick(v[2]),
-        start: Millis(v[3]),
-        duration: Millis(v[4]),
-        depth: Millis(v[5]),
-        first: Number(v[6]),
+    Frame::Head(HeadFields {
+        timescale: v[1],
+        offset: v[2],
+        start: v[3],
+        duration: v[4],
+        depth: v[5],
+        first: v[6],
     })
 }
 
@@ -63,7 +59,7 @@ fn read_s(line: &[u8]) -> Frame
     fields::read_fields(line, &S_WIDTHS, &mut v);
     Frame::S(SFields {
         t: WideTick(v[1]),
-        d: Span(v[2]),
+        d: v[2],
         r: v[3],
     })
 }
@@ -85,5 +81,5 @@ fn read_clock(line: &[u8]) -> Frame
 {
     let mut v = [0u64; 2];
     fields::read_fields(line, &CLOCK_WIDTHS, &mut v);
-    Frame::Clock(Millis(v[1]))
+    Frame::Clock(WideMillis(v[1]))
 }

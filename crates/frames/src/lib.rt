@@ -7,25 +7,24 @@ ghost use Rattle.frames.specs.Frames.{Fits, Written, frameOf, kindOf, li
 mod fields;
 mod kinds;
 
-use units::Millis;
-use units::Span;
+use units::WideMillis;
 use units::WideTick;
-use window::Head;
+use window::HeadFields;
 
-// The fields of an S line as they stand in the file: what an absent t and a negative r mean is
-// judged above.
+// The fields of an S line as they stand in the file: what an absent t and a negative r mean, and
+// whether d is a duration, is judged above.
 pub struct SFields {
     pub t: WideTick,
-    pub d: Span,
+    pub d: u64,
     pub r: u64,
 }
 
-// A frame by its kind, or the mark of a line that is none.
+// A frame by its kind, or the mark of a line that is none. Its fields are any that its widths hold.
 pub enum Frame {
-    Head(Head),
+    Head(HeadFields),
     S(SFields),
     End(u64),
-    Clock(Millis),
+    Clock(WideMillis),
     Bad,
 }
 
@@ -69,17 +68,17 @@ pub fn write_line(out: &mut [u8], frame: Frame) -> usize
         Frame::Head(h) => {
             let values = [
                 1,
-                h.timescale.0,
-                h.offset.0,
-                h.start.0,
-                h.duration.0,
-                h.depth.0,
-                h.first.0,
+                h.timescale,
+                h.offset,
+                h.start,
+                h.duration,
+                h.depth,
+                h.first,
             ];
             fields::write_fields(out, &kinds::HEAD_WIDTHS, &values)
         }
         Frame::S(s) => {
-            let values = [2, s.t.0, s.d.0, s.r];
+            let values = [2, s.t.0, s.d, s.r];
             fields::write_fields(out, &kinds::S_WIDTHS, &values)
         }
         Frame::End(count) => {

@@ -16,7 +16,7 @@ pub(crate) fn gone_of(passed: Passed, run: Run) -> u64
 {
     match passed {
         Passed::All => run.count,
-        Passed::Upto(t) => runs::table::ended_in(run, t.0),
+        Passed::Upto(t) => runs::table::ended_in(run, t),
     }
 }
 
@@ -28,6 +28,6 @@ pub fn gone_in(passed: Passed, table: &[u64], used: usize, total: u64) -> u64
 {
     match passed {
         Passed::All => total,
-        Passed::Upto(t) => runs::table::ended_by(table, used, t.0),
+        Passed::Upto(t) => runs::table::ended_by(table, used, t),
     }
 }

@@ -8,9 +8,9 @@ use native.Mathlib.Omega.{arith}
 use borrow.Author.Tests.{eqb-false, lt-leb}
 use lib.Dec.{lit<, lit≤, leb}
 use lib.ListN.{length, getD, drop, replicate}
-use Rattle.units.specs.Limits.{millisHeld}
+use Rattle.units.specs.Limits.{clockHeld}
 use Rattle.units.specs.Standing.{less32}
-use Rattle.units.specs.declared.Millis.{Millis}
+use Rattle.units.specs.declared.WideMillis.{WideMillis}
 use Rattle.window.specs.Place.{place, moment, periodEnd, endKnown}
 use Rattle.window.specs.Window.{lowEdge, highEdge, windowAt, wholePeriod}
 use Rattle.window.specs.Ticks.{named, NeededTicks}
@@ -173,11 +173,11 @@ b-short room l =
 -- ---- a verdict by its ranges
 
 module _ (rec : Record) (ws : List ℕ) (a : agrees rec ws ≡ true) (o : rec .used ≡ 0 → ⊥) where
-  by-clock : (c : Millis) → millisHeld c ≡ true → leb (rec .clock .0) (c .0) ≡ true → (x : Needed) (v : Verdict) → NeededTicks (rec .head) (windowAt (rec .head) (c .0)) x →
+  by-clock : (c : WideMillis) → clockHeld c ≡ true → leb (rec .clock .0) (c .0) ≡ true → (x : Needed) (v : Verdict) → NeededTicks (rec .head) (windowAt (rec .head) (c .0)) x →
       v ≡ verdictBy (named x) (inRange (getD ws 0 0) (rec .next .0)) (pastNamed x) → verdictAt rec ws c ≡ v
   by-clock c m l x v n e =
       let u : Verdict = verdictOf (rec .head) (windowAt (rec .head) (c .0)) (kept rec ws) in
-      ap (λ s. cond s (cond (millisHeld c) (cond (leb (rec .clock .0) (c .0)) u (Refused EarlierClock)) (Refused ClockLimit)) (Refused Disagreement)) a ∙
+      ap (λ s. cond s (cond (clockHeld c) (cond (leb (rec .clock .0) (c .0)) u (Refused EarlierClock)) (Refused ClockLimit)) (Refused Disagreement)) a ∙
       ap₂ (λ s t. cond s (cond t u (Refused EarlierClock)) (Refused ClockLimit)) m l ∙
       sym (agreed-verdict rec ws a (windowAt (rec .head) (c .0)) x (getD ws 0 0) v n (first-reach rec ws a o) e)
 

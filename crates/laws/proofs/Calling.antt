@@ -6,9 +6,9 @@ use mathlib.Core.List.{List, [], _∷_, _++_}
 use Prim.Native.Nat.{ℕ}
 use lib.Dec.{eqb}
 use lib.ListN.{length}
-use Rattle.units.specs.declared.Millis.{Millis}
+use Rattle.units.specs.declared.WideMillis.{WideMillis}
 use Rattle.units.specs.declared.standing.Standing.{Standing}
-use Rattle.units.specs.Limits.{millisHeld}
+use Rattle.units.specs.Limits.{clockHeld}
 use Rattle.units.specs.Standing.{tickStanding, stampStanding}
 use Rattle.window.specs.declared.Reference.{Reference}
 use Rattle.runs.specs.Encoding.{canonical}
@@ -46,7 +46,7 @@ module _ (s : State) (st : Standing) (d n : ℕ) where
   unfolding changedBy wordsBy
   append-refused why e = ap (λ o. left-by o appendLeaves s) e
 
-module _ (s : State) (m : Millis) where
+module _ (s : State) (m : WideMillis) where
   abbrev pub trimLeaves : State
   trimLeaves = stateFrom (trimmed (s .rec) (s .words) (m .0)) (canonical (length (s .words)) (leftAt (s .rec) (s .words) (m .0)))
 
@@ -89,7 +89,7 @@ module _ (s : State) where
   laid-append st d n Accepted e rest xs k = ap (λ ys. given (s .rec) d n ++ ys) (k ∙ ap (λ x. laidFrom (x .rec .next .0) rest) (append-done s st d n e))
   laid-append st d n (Refused why) e rest xs k = k ∙ ap (λ x. laidFrom (x .rec .next .0) rest) (append-refused s st d n why e)
 
-  laid-trim : (m : Millis) (o : Outcome) → trimOutcome (s .rec) (s .words) m ≡ o → Laid (ifAccepted o []) (after s (trimAt m)) (ifAccepted o [])
+  laid-trim : (m : WideMillis) (o : Outcome) → trimOutcome (s .rec) (s .words) m ≡ o → Laid (ifAccepted o []) (after s (trimAt m)) (ifAccepted o [])
   laid-trim m Accepted e rest xs k = k ∙ ap (λ x. laidFrom (x .rec .next .0) rest) (trim-done s m e)
   laid-trim m (Refused why) e rest xs k = k ∙ ap (λ x. laidFrom (x .rec .next .0) rest) (trim-refused s m why e)
 
@@ -119,9 +119,9 @@ module _ (came : List ℕ) where
   no-append st d n =
       ap (λ b. cond b (cond (eqb d 0 || eqb n 0) (Refused NothingGiven) (joining st (fitOutcome zeroRecord came d n))) (Refused Disagreement)) zero-disagrees
 
-  no-trim : (m : Millis) → trimOutcome zeroRecord came m ≡ Refused Disagreement
+  no-trim : (m : WideMillis) → trimOutcome zeroRecord came m ≡ Refused Disagreement
   unfolding trimOutcome
-  no-trim m = ap (λ b. cond b (cond (millisHeld m) Accepted (Refused ClockLimit)) (Refused Disagreement)) zero-disagrees
+  no-trim m = ap (λ b. cond b (cond (clockHeld m) Accepted (Refused ClockLimit)) (Refused Disagreement)) zero-disagrees
 
   -- every call is refused, and leaves all as it came
   no-call : (c : Call) → (tested zeroed c ≡ Refused Disagreement) × (after zeroed c ≡ zeroed)

@@ -9,7 +9,7 @@ use lib.Dec.{eqb, leb, ltb}
 use Rattle.units.specs.declared.Tick.{Tick}
 use Rattle.units.specs.declared.WideTick.{WideTick}
 use Rattle.units.specs.declared.Stamp.{Stamp}
-use Rattle.units.specs.declared.Millis.{Millis}
+use Rattle.units.specs.declared.WideMillis.{WideMillis}
 use Rattle.units.specs.declared.standing.Standing.{Standing}
 use Rattle.units.specs.declared.standing.Standing.the-variants.{Joins, Gap, Overlap}
 use Rattle.units.specs.Limits.{largestTick, largestSpan, largestMillis, largestTimescale, largestNumber, tickHeld}
@@ -58,7 +58,7 @@ opening h t =
     by true = refl
     by false = refl
 
-pub trim : (rec : Record) (ws : List ℕ) (c : Millis) →
+pub trim : (rec : Record) (ws : List ℕ) (c : WideMillis) →
     outcomeNumber (trimAnswer rec ws c .outcome) ≡ lowest (trimRows rec ws c)
 unfolding trimOutcome
 trim rec ws c =

@@ -11,6 +11,8 @@ use lib.ListN.{length}
 use Rattle.units.specs.declared.Tick.{Tick}
 use Rattle.units.specs.Limits.{largestSpan}
 use Rattle.units.specs.Standing.{tickStanding, stampStanding}
+use Rattle.units.specs.Limits.{tickOf}
+use Rattle.window.specs.Limits.{headOf}
 use Rattle.timeline.specs.Opening.{openOutcome, openAnswer, openTable, zeroRecord}
 use Rattle.timeline.specs.Appending.{appendOutcome}
 use Rattle.timeline.specs.Trimming.{trimOutcome}
@@ -133,7 +135,9 @@ demand-1 =
           record {
             any = λ κs a. tt;
             right = λ κs a x e p.
-                changing (openOutcome (a .0) (a .1 .0)) _ zeroRecord _ (now (a .1 .1 .0)) (openRows (a .0) (a .1 .0)) (refusals .opening (a .0) (a .1 .0)) x _ (p .0) (p .1);
+                let h = headOf (a .0) in
+                let t = tickOf (a .1 .0) in
+                changing (openOutcome h t) _ zeroRecord _ (now (a .1 .1 .0)) (openRows h t) (refusals .opening h t) x _ (p .0) (p .1);
           };
       append =
           record {

@@ -7,7 +7,7 @@ use native.Mathlib.Omega.{arith}
 use borrow.Author.Tests.{eqb-true, eqb-false, eq-eqb, ne-eqb, leb-true, leb-false, le-leb, lt-leb}
 use lib.Dec.{eqb, leb}
 use lib.ListN.{length, getD, drop}
-use Rattle.units.specs.declared.Millis.{Millis}
+use Rattle.units.specs.declared.WideMillis.{WideMillis}
 use Rattle.units.specs.declared.WideTick.{WideTick}
 use Rattle.units.specs.Limits.{largestMillis}
 use Rattle.window.specs.Window.{Stretch, windowAt, wholePeriod}
@@ -75,7 +75,7 @@ cut (b ∷ bs) h = go (eqb b lineFeed) refl h (cut bs)
     go true e h ih = ap (λ (x : ℕ). x ∷ bs) (eqb-true b lineFeed e)
     go false e h ih = ap (λ (l : List ℕ). b ∷ l) (ih h)
 
-abbrev millis : ℕ → Millis
+abbrev millis : ℕ → WideMillis
 millis n = record { 0 = n }
 
 -- the program's table is the one that is lent
@@ -129,7 +129,7 @@ module _ (input : List ℕ) (clock : ℕ) (file : List ℕ) (a : Asks input cloc
 
 -- ---- and the other way
 
-asks-of : (input : List ℕ) (c : Millis) → hasFeed input ≡ true → frameOf (firstLine input) ≡ frame.Clock c → Asks input (c .0) (behindFirst input)
+asks-of : (input : List ℕ) (c : WideMillis) → hasFeed input ≡ true → frameOf (firstLine input) ≡ frame.Clock c → Asks input (c .0) (behindFirst input)
 asks-of input c h e =
     let r = language .exactly (firstLine input) (frame.Clock c) .0 (refl, e) in
     record { fits = r .0 .fields .0; is = cut input h ∙ ap (λ (l : List ℕ). l ++ lineFeed ∷ behindFirst input) (sym (r .1)) }
@@ -138,17 +138,17 @@ asks-of input c h e =
 
 module _ (clock : ℕ) where
   ask-whole : clock ≡ allOnes → askedBy (frame.Clock (millis clock)) ≡ asked.Whole
-  ask-whole e = ap (λ t. cond t asked.Whole (cond (leb clock largestMillis) (asked.At (millis clock)) (asked.Refused refusal.ClockLimit))) (eq-eqb clock allOnes e)
+  ask-whole e = ap (λ t. cond t asked.Whole (cond (leb clock largestMillis) (asked.At (record { 0 = clock })) (asked.Refused refusal.ClockLimit))) (eq-eqb clock allOnes e)
 
-  ask-at : clock ≤ largestMillis → askedBy (frame.Clock (millis clock)) ≡ asked.At (millis clock)
+  ask-at : clock ≤ largestMillis → askedBy (frame.Clock (millis clock)) ≡ asked.At (record { 0 = clock })
   ask-at l =
-      ap₂ (λ s t. cond s asked.Whole (cond t (asked.At (millis clock)) (asked.Refused refusal.ClockLimit)))
+      ap₂ (λ s t. cond s asked.Whole (cond t (asked.At (record { 0 = clock })) (asked.Refused refusal.ClockLimit)))
       (ne-eqb clock allOnes (λ e. let z : ⊥ = omega arith in z))
       (le-leb clock largestMillis l)
 
   ask-over : largestMillis < clock → (clock ≡ allOnes → ⊥) → askedBy (frame.Clock (millis clock)) ≡ asked.Refused refusal.ClockLimit
   ask-over l n =
-      ap₂ (λ s t. cond s asked.Whole (cond t (asked.At (millis clock)) (asked.Refused refusal.ClockLimit))) (ne-eqb clock allOnes n)
+      ap₂ (λ s t. cond s asked.Whole (cond t (asked.At (record { 0 = clock })) (asked.Refused refusal.ClockLimit))) (ne-eqb clock allOnes n)
       (lt-leb clock largestMillis l)
 
 -- ---- what reading comes to
@@ -285,7 +285,7 @@ judged input rec ws w h = go w (h .window)
           v = verdictAt rec ws (millis (h .clock));
           judges = judges-at (h .file) rec ws (h .accepts) (h .clock) l;
           told =
-              by-asked input (h .clock) (h .file) (h .asks) (asked.At (millis (h .clock))) (ask-at (h .clock) l) x (h .accepts .answer) ws (h .accepts .table);
+              by-asked input (h .clock) (h .file) (h .asks) (asked.At (record { 0 = h .clock })) (ask-at (h .clock) l) x (h .accepts .answer) ws (h .accepts .table);
         }
     go _ (desk.whole e k) =
         record {
@@ -334,7 +334,7 @@ module _ (input : List ℕ) where
   tell-refused _ _ (desk.over clock file a l n) =
       by-asked input clock file a (asked.Refused refusal.ClockLimit) (ask-over clock l n) (readAnswer file lent) refl (readTable file lent) refl
   tell-refused _ _ (bad-line clock file why line a (at-clock l) e) =
-      by-asked input clock file a (asked.At (millis clock)) (ask-at clock l) _ e (readTable file lent) refl
+      by-asked input clock file a (asked.At (record { 0 = clock })) (ask-at clock l) _ e (readTable file lent) refl
   tell-refused _ _ (bad-line clock file why line a (of-whole f) e) =
       by-asked input clock file a asked.Whole (ask-whole clock f) _ e (readTable file lent) refl
   tell-refused _ _ (no-end file rec ws a x f) =

@@ -67,7 +67,7 @@ one-lacking n m k n₁ m₁ k₁ e =
     let z = same-number n n₁ (behindNeeded n m) (behindNeeded n₁ m₁) refl refl (ap (drop 1) (y .1)) in
     (z .0, y .0, x .0)
 
-pub lacking-text : (n m : ℕ) (k : WideTick) → percentNumber (percentOf m n) ≡ m * 100 / n → verdictText (verdict.Lacking n m k) ≡ lackingLine n m (k .0)
+pub lacking-text : (n m : ℕ) (k : WideTick) → percentNumber (percentOf n m) ≡ m * 100 / n → verdictText (verdict.Lacking n m k) ≡ lackingLine n m (k .0)
 unfolding verdictText shareText
 lacking-text n m k p =
     ap (λ (q : ℕ). ascii "lacking " ++ decimal (k .0) ++ ascii " " ++ (decimal m ++ ascii "/" ++ decimal n ++ ascii " " ++ decimal q ++ ascii "%" ++ lineFeed ∷ [])) p ∙

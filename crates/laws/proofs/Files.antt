@@ -171,20 +171,20 @@ module _ (h : Head) (s d n : ℕ) (lasts : 1 ≤ d) (known : 1 ≤ h .duration .
           let l = count.least-holds h s d lasts ends before in
           record { some = count.least-some h s d lasts (leastCount h s d) ends before l; reaches = l .enough; least = λ m i k. l .least m k }
 
-pub negative-r : (r : Reading) (ws : List ℕ) (s : SFields) (n : ℕ) → firstNegative ≤ s .r → 1 ≤ s .d .0 → 1 ≤ r .rec .head .duration .0 →
-    beforeEnd (r .rec .head) (r .rec .next .0) ≡ true → Least (r .rec .head) (r .rec .next .0) (s .d .0) n →
-    takeS r ws Joins s ≡ appendedBy (fitOutcome (r .rec) ws (s .d .0) n) Filled r ws (s .d .0) n
+pub negative-r : (r : Reading) (ws : List ℕ) (s : SFields) (n : ℕ) → firstNegative ≤ s .r → 1 ≤ s .d → 1 ≤ r .rec .head .duration .0 →
+    beforeEnd (r .rec .head) (r .rec .next .0) ≡ true → Least (r .rec .head) (r .rec .next .0) (s .d) n →
+    takeS r ws Joins s ≡ appendedBy (fitOutcome (r .rec) ws (s .d) n) Filled r ws (s .d) n
 unfolding takeS reachesBy reachOutcome
 negative-r r ws s n negative lasts known before l =
-    ap (λ t. cond t (appendedBy (appendOutcome (r .rec) ws Joins (s .d .0) (s .r + 1)) Open r ws (s .d .0) (s .r + 1)) (reachesBy r ws Joins (s .d .0)))
+    ap (λ t. cond t (appendedBy (appendOutcome (r .rec) ws Joins (s .d) (s .r + 1)) Open r ws (s .d) (s .r + 1)) (reachesBy r ws Joins (s .d)))
     (le-ltb (s .r) firstNegative negative) ∙
-    ap (λ (m : ℕ). appendedBy (reachOutcome (r .rec) ws Joins (s .d .0) m) Filled r ws (s .d .0) m)
-    (sym (least-count (r .rec .head) (r .rec .next .0) (s .d .0) n lasts known before .if l)) ∙
-    ap (λ o. appendedBy o Filled r ws (s .d .0) n) judged
+    ap (λ (m : ℕ). appendedBy (reachOutcome (r .rec) ws Joins (s .d) m) Filled r ws (s .d) m)
+    (sym (least-count (r .rec .head) (r .rec .next .0) (s .d) n lasts known before .if l)) ∙
+    ap (λ o. appendedBy o Filled r ws (s .d) n) judged
   where
-    judged : reachOutcome (r .rec) ws Joins (s .d .0) n ≡ fitOutcome (r .rec) ws (s .d .0) n
+    judged : reachOutcome (r .rec) ws Joins (s .d) n ≡ fitOutcome (r .rec) ws (s .d) n
     judged =
-        ap₂ (λ t u. cond t (outcome.Refused NothingGiven) (cond u (cond (beforeEnd (r .rec .head) (r .rec .next .0)) (fitOutcome (r .rec) ws (s .d .0) n) (outcome.Refused PastEnd)) (outcome.Refused NoEndToReach)))
-        (ne-eqb (s .d .0) 0 (λ z. let y : ⊥ = omega arith in y))
-        (ends (r .rec .head) (r .rec .next .0) (s .d .0) n lasts known before) ∙
-        ap (λ t. cond t (fitOutcome (r .rec) ws (s .d .0) n) (outcome.Refused PastEnd)) before
+        ap₂ (λ t u. cond t (outcome.Refused NothingGiven) (cond u (cond (beforeEnd (r .rec .head) (r .rec .next .0)) (fitOutcome (r .rec) ws (s .d) n) (outcome.Refused PastEnd)) (outcome.Refused NoEndToReach)))
+        (ne-eqb (s .d) 0 (λ z. let y : ⊥ = omega arith in y))
+        (ends (r .rec .head) (r .rec .next .0) (s .d) n lasts known before) ∙
+        ap (λ t. cond t (fitOutcome (r .rec) ws (s .d) n) (outcome.Refused PastEnd)) before

@@ -8,7 +8,7 @@ use Prim.Native.Nat.{ℕ, _+_, _-_, _*_, _/_, _≤_, max}
 use native.Mathlib.Nat.{le-max-left, max-zero, zero-max, le-refl, le-antisymm, sub-zero}
 use native.Mathlib.Omega.{arith}
 use lib.ListN.{length, drop, replicate, length-append, length-replicate}
-use Rattle.units.specs.declared.Millis.{Millis}
+use Rattle.units.specs.declared.WideMillis.{WideMillis}
 use Rattle.units.specs.declared.Tick.{Tick}
 use Rattle.units.specs.declared.standing.Standing.{Standing}
 use Rattle.units.specs.Standing.{tickStanding, stampStanding}
@@ -151,7 +151,7 @@ module _ (h : Head) (t : Tick) (words : ℕ) where
 
     -- ---- a trim
 
-    module _ (m : Millis) where
+    module _ (m : WideMillis) where
       module _ (e : trimOutcome (recordOf acc c) (wordsOf acc c) m ≡ Accepted) where
         less-is : leftAt (recordOf acc c) (wordsOf acc c) (m .0) ≡ unspent h (max c (m .0)) acc
         less-is = ap (unspent h (max c (m .0))) kept-is ∙ unspent-raised h c (max c (m .0)) (le-max-left c (m .0)) acc
@@ -225,7 +225,7 @@ module _ (h : Head) (t : Tick) (words : ℕ) where
     same-history acc (acc ++ []) c (max c 0) (sym (append-nil acc)) (sym (max-zero c)) f,
   )
 
-  next-trim : (acc : List Reference) (c : ℕ) → Fit acc c → (m : Millis) →
+  next-trim : (acc : List Reference) (c : ℕ) → Fit acc c → (m : WideMillis) →
       (o : Outcome) → trimOutcome (recordOf acc c) (wordsOf acc c) m ≡ o →
       (after (stateOf acc c) (trimAt m) ≡ stateOf (acc ++ []) (max c (clockIf o (m .0)))) × Fit (acc ++ []) (max c (clockIf o (m .0)))
   next-trim acc c f m Accepted e = (

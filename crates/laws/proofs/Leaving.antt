@@ -7,8 +7,8 @@ use native.Mathlib.Nat.{sub-self, le-trans}
 use native.Mathlib.Omega.{arith}
 use borrow.Author.Tests.{leb-true}
 use lib.ListN.{length, getD, take, drop, length-drop}
-use Rattle.units.specs.declared.Millis.{Millis}
-use Rattle.units.specs.Limits.{largestMillis, millisHeld}
+use Rattle.units.specs.declared.WideMillis.{WideMillis}
+use Rattle.units.specs.Limits.{largestMillis, clockHeld}
 use Rattle.window.specs.declared.Head.{Head}
 use Rattle.window.specs.declared.Reference.{Reference}
 use Rattle.window.specs.Place.{beforeEnd}
@@ -64,15 +64,15 @@ trim-room rec ws a c =
     (subst⁻¹ (λ (n : ℕ). n ≤ length ws / 3) (runs-for-kept (rec .used) ws t) (used-fits (rec .used) ws t))
 
 -- an accepted trim had a record and a table that agree, and a clock within its limit
-pub trim-agreed : (rec : Record) (ws : List ℕ) (m : Millis) → trimOutcome rec ws m ≡ Accepted → agrees rec ws ≡ true
+pub trim-agreed : (rec : Record) (ws : List ℕ) (m : WideMillis) → trimOutcome rec ws m ≡ Accepted → agrees rec ws ≡ true
 unfolding trimOutcome
-trim-agreed rec ws m e = past-if (agrees rec ws) (cond (millisHeld m) Accepted (Refused ClockLimit)) Disagreement e .0
+trim-agreed rec ws m e = past-if (agrees rec ws) (cond (clockHeld m) Accepted (Refused ClockLimit)) Disagreement e .0
 
-pub trim-small : (rec : Record) (ws : List ℕ) (m : Millis) → trimOutcome rec ws m ≡ Accepted → m .0 ≤ largestMillis
+pub trim-small : (rec : Record) (ws : List ℕ) (m : WideMillis) → trimOutcome rec ws m ≡ Accepted → m .0 ≤ largestMillis
 unfolding trimOutcome
 trim-small rec ws m e =
-    let a = past-if (agrees rec ws) (cond (millisHeld m) Accepted (Refused ClockLimit)) Disagreement e in
-    leb-true (m .0) largestMillis (past-if (millisHeld m) Accepted ClockLimit (a .1) .0)
+    let a = past-if (agrees rec ws) (cond (clockHeld m) Accepted (Refused ClockLimit)) Disagreement e in
+    leb-true (m .0) largestMillis (past-if (clockHeld m) Accepted ClockLimit (a .1) .0)
 
 -- references that start before the period end and last
 pub each-sound : (h : Head) (d : ℕ) → 1 ≤ d → (s n : ℕ) → every (λ r. beforeEnd h (r .start .0)) (repeated s d n) ≡ true → Each (Sound h) (repeated s d n)

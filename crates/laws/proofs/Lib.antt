@@ -22,6 +22,7 @@ pub mod Bytes
 pub mod WholeFile
 pub mod Reading
 pub mod Refusals
+pub mod Constructors
 pub mod Unique
 pub mod Answering
 pub mod Demand1

@@ -11,7 +11,7 @@ use Rattle.units.specs.declared.Tick.{Tick}
 use Rattle.units.specs.declared.standing.Standing.the-variants.{Joins}
 use Rattle.units.specs.Standing.{tickStanding}
 use Rattle.window.specs.declared.Head.{Head}
-use Rattle.window.specs.Limits.{headHeld}
+use Rattle.window.specs.Limits.{headHeld, headOf, fieldsOf}
 use Rattle.agreement.specs.declared.refusal.Refusal.{Refusal}
 use Rattle.agreement.specs.declared.refusal.Refusal.the-variants.{OverLimit, BadLine, BadOrder}
 use Rattle.agreement.specs.Agreement.{agrees}
@@ -83,12 +83,12 @@ module _ (came : List ℕ) (h : Head) where
       by true = refl
       by false = refl
 
-  head-step : Step came (beginning came) 0 (HeadFrame h) (takeHead (held came (beginning came) 0 .reading) came h)
+  head-step : Step came (beginning came) 0 (HeadFrame (fieldsOf h)) (takeHead (held came (beginning came) 0 .reading) came h)
   unfolding takeHead
   head-step = go (headHeld h) refl
     where
       go : (b : Bool) → headHeld h ≡ b →
-          Step came (beginning came) 0 (HeadFrame h)
+          Step came (beginning came) 0 (HeadFrame (fieldsOf h))
           (cond b
           (taken Headed (record { stage = Nothing; lines = 0; rec = zeroRecord }) (freshRecord h (record { 0 = 0 })) came)
           (refused OverLimit (record { stage = Nothing; lines = 0; rec = zeroRecord }) came))
@@ -237,7 +237,7 @@ onward came x n f = onFrame (held came x n .reading .stage) (held came x n .read
 
 step : (came : List ℕ) (x : Sofar) (n : ℕ) → At came x n → (f : Frame) → Narrow f → Step came x n f (onward came x n f)
 unfolding onNothing onHeaded onOpen onFilled
-step came x n none (HeadFrame h) w = head-step came h
+step came x n none (HeadFrame f) w = head-step came (headOf f)
 step came x n none (S s) w = stops BadOrder refl refl refl
 step came x n none (End m) w = stops BadOrder refl refl refl
 step came x n none (Clock c) w = stops BadLine refl refl refl

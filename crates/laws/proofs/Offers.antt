@@ -9,8 +9,8 @@ use lib.Dec.{eqb}
 use lib.IntN.{pos}
 use lib.ListN.{length}
 use lib.Signed.{leZ, ltZ}
-use Rattle.units.specs.declared.Millis.{Millis}
-use Rattle.units.specs.declared.Number.{Number}
+use Rattle.units.specs.declared.WideMillis.{WideMillis}
+use Rattle.units.specs.declared.WideNumber.{WideNumber}
 use Rattle.units.specs.Limits.{largestMillis}
 use Rattle.window.specs.declared.Reference.{Reference}
 use Rattle.window.specs.Place.{place}
@@ -40,7 +40,7 @@ number-none m n (r ∷ rs) o =
     numbering.past m n r rs (λ e. o 0 (omega arith) (omega arith)) ∙ number-none (suc m) n rs (λ i l e. o (suc i) (omega arith) (omega arith))
 
 module _ (rec : Record) (ws : List ℕ) where
-  pub available-disagreed : (n : Number) → agrees rec ws ≡ false → availabilityIn rec ws n ≡ Refused Disagreement
+  pub available-disagreed : (n : WideNumber) → agrees rec ws ≡ false → availabilityIn rec ws n ≡ Refused Disagreement
   available-disagreed n e = ap (λ t. cond t (numberAvailability (rec .head) (keptNumber rec ws (n .0))) (Refused Disagreement)) e
 
   module _ (a : agrees rec ws ≡ true) where
@@ -71,7 +71,7 @@ module _ (rec : Record) (ws : List ℕ) where
           ap (λ t. cond t (NeverEnds (grain (startsAt (rec .head) r))) (Ends (grain (startsAt (rec .head) r)) (grain (endsAt (rec .head) r))))
           (eq-eqb (rec .head .depth .0) 0 d)
 
-      module _ (c : Millis) (l : c .0 ≤ largestMillis) where
+      module _ (c : WideMillis) (l : c .0 ≤ largestMillis) where
         -- by the test
         by-test : availableIn rec ws (numbered (firstKept rec + length xs)) c ≡ cond (available.available (rec .head) r (c .0)) Yes No
         by-test =

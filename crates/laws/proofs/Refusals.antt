@@ -8,8 +8,8 @@ use borrow.Author.Tests.{ltb-true, ltb-false, lt-ltb, le-ltb, le-leb, lt-leb, eq
 use lib.Dec.{eqb, leb, ltb}
 use lib.ListN.{length}
 use Rattle.units.specs.declared.WideTick.{WideTick}
-use Rattle.units.specs.declared.Millis.{Millis}
-use Rattle.units.specs.declared.Number.{Number}
+use Rattle.units.specs.declared.WideMillis.{WideMillis}
+use Rattle.units.specs.declared.WideNumber.{WideNumber}
 use Rattle.units.specs.Limits.{largestMillis}
 use Rattle.window.specs.declared.Head.{Head}
 use Rattle.window.specs.declared.Reference.{Reference}
@@ -52,7 +52,7 @@ well h w rs = go (eqb (neededCount h w) 0) (eqb (coveredCount h w rs) (neededCou
     go false true = refl
     go false false = refl
 
-verdict-at : (rec : Record) (ws : List ℕ) (c : Millis) →
+verdict-at : (rec : Record) (ws : List ℕ) (c : WideMillis) →
     verdictNumber (verdictAt rec ws c) ≡ lowest (verdictRows rec ws c)
 verdict-at rec ws c =
     by (agrees rec ws) (leb (c .0) largestMillis) (leb (rec .clock .0) (c .0)) _ (well (rec .head) (windowAt (rec .head) (c .0)) (kept rec ws)) ∙
@@ -104,7 +104,7 @@ found f none some m n (r ∷ rs) = go (eqb m n) refl (found f none some (suc m) 
         some r ∙ sym (ap₂ (λ a b. cond {A = ℕ} (a || b) 13 0) (le-ltb n m (omega arith)) (lt-leb (m + suc (length rs)) n (omega arith)))
     go false e k = k ∙ ap (λ b. cond {A = ℕ} b 13 0) (same (eqb-false m n e))
 
-module _ (rec : Record) (ws : List ℕ) (n : Number) where
+module _ (rec : Record) (ws : List ℕ) (n : WideNumber) where
   -- of an agreeing record
   kept-found : agrees rec ws ≡ true → (f : Numbered → ℕ) → f Missing ≡ 13 → ((r : Reference) → f (Kept r) ≡ 0) →
       f (keptNumber rec ws (n .0)) ≡ cond (notKept rec n) 13 0
@@ -132,7 +132,7 @@ module _ (rec : Record) (ws : List ℕ) (n : Number) where
       go false e = refl
       go true e = kept-found e (λ x. availabilityNumber (numberAvailability (rec .head) x)) refl each
 
-  available-number : (c : Millis) → availableNumber (availableIn rec ws n c) ≡ lowest (availableRows rec ws n c)
+  available-number : (c : WideMillis) → availableNumber (availableIn rec ws n c) ≡ lowest (availableRows rec ws n c)
   available-number c =
       go (agrees rec ws) (leb (c .0) largestMillis) refl ∙
       ap (λ b. lowest ((not (agrees rec ws), 2) ∷ (b, 10) ∷ (notKept rec n, 13) ∷ [])) (over (c .0) largestMillis .is)

@@ -11,7 +11,7 @@ use Rattle.units.specs.declared.WideTick.{WideTick}
 use Rattle.units.specs.declared.Tick.{Tick}
 use Rattle.units.specs.declared.standing.Standing.{Standing}
 use Rattle.units.specs.declared.standing.Standing.the-variants.{Joins}
-use Rattle.units.specs.Limits.{largestSpan}
+use Rattle.units.specs.Limits.{largestSpan, tickOf}
 use Rattle.units.specs.Standing.{standingBy, tickStanding}
 use Rattle.window.specs.Place.{beforeEnd}
 use Rattle.runs.specs.Encoding.{canonical}
@@ -49,10 +49,10 @@ later-stands s next = go (eqb (s .t .0) absent)
     go true = sym (ap (λ b. standingBy b (ltb (next .0) (next .0))) (eq-eqb (next .0) (next .0) refl))
     go false = refl
 
-pub first-is : (s : SFields) → firstTick (s .t) ≡ openingTick s
+pub first-is : (s : SFields) → tickOf (firstTick (s .t)) ≡ openingTick s
 first-is s = go (eqb (s .t .0) absent)
   where
-    go : (b : Bool) → _≡_ {A = Tick} (cond b (record { 0 = 0 }) (record { 0 = s .t .0 })) (record { 0 = cond b 0 (s .t .0) })
+    go : (b : Bool) → _≡_ {A = Tick} (tickOf (cond b (record { 0 = 0 }) (s .t))) (record { 0 = cond b 0 (s .t .0) })
     go true = refl
     go false = refl
 
@@ -76,7 +76,7 @@ pub data Taken (x : State) (s : SFields) (n : ℕ) (z : File) : Type 0 where
       agrees (after x (callOf x s) .rec) (after x (callOf x s) .words) ≡ true → length (after x (callOf x s) .words) ≡ length (x .words) → Taken x s n z
   off : (why : Refusal) → z .reading .stage ≡ Refused why → z .reading .lines ≡ n → lowest (appendedRows x s) ≡ refusalNumber why → Taken x s n z
 
-module _ (x : State) (s : SFields) (n : ℕ) (st : Stage) (agreed : agrees (x .rec) (x .words) ≡ true) (narrow : s .d .0 ≤ largestSpan) where
+module _ (x : State) (s : SFields) (n : ℕ) (st : Stage) (agreed : agrees (x .rec) (x .words) ≡ true) (narrow : s .d ≤ largestSpan) where
   abbrev start : WideTick
   start = record { 0 = startOf (x .rec .next .0) s }
 
@@ -87,25 +87,25 @@ module _ (x : State) (s : SFields) (n : ℕ) (st : Stage) (agreed : agrees (x .r
   before = record { stage = st; lines = n; rec = x .rec }
 
   -- what is left where m references are appended
-  left-is : (m : ℕ) → appendOutcome (x .rec) (x .words) standing (s .d .0) m ≡ outcome.Accepted →
-      after x (byTick start (s .d .0) m) ≡
-      record { rec = appended (x .rec) (x .words) (s .d .0) m; words = canonical (length (x .words)) (leftOf (x .rec) (x .words) (s .d .0) m) }
+  left-is : (m : ℕ) → appendOutcome (x .rec) (x .words) standing (s .d) m ≡ outcome.Accepted →
+      after x (byTick start (s .d) m) ≡
+      record { rec = appended (x .rec) (x .words) (s .d) m; words = canonical (length (x .words)) (leftOf (x .rec) (x .words) (s .d) m) }
   unfolding changedBy wordsBy
   left-is m e =
       ap
       (λ o. record {
-        rec = changedBy o (appended (x .rec) (x .words) (s .d .0) m) (x .rec) .rec;
-        words = wordsBy o (canonical (length (x .words)) (leftOf (x .rec) (x .words) (s .d .0) m)) (x .words);
+        rec = changedBy o (appended (x .rec) (x .words) (s .d) m) (x .rec) .rec;
+        words = wordsBy o (canonical (length (x .words)) (leftOf (x .rec) (x .words) (s .d) m)) (x .words);
       })
       e
 
   -- by an outcome that is the rows', with m references of which the append is accepted where that is
   by-outcome : (o : Outcome) (goal : Stage) (m : ℕ) → lowest (appendedRows x s) ≡ outcomeNumber o → cond (negative s) Filled Open ≡ goal →
-      (o ≡ outcome.Accepted → (countOf x s ≡ m) × (appendOutcome (x .rec) (x .words) standing (s .d .0) m ≡ outcome.Accepted)) →
-      Taken x s n (appendedBy o goal before (x .words) (s .d .0) m)
+      (o ≡ outcome.Accepted → (countOf x s ≡ m) × (appendOutcome (x .rec) (x .words) standing (s .d) m ≡ outcome.Accepted)) →
+      Taken x s n (appendedBy o goal before (x .words) (s .d) m)
   unfolding settledReading wordsBy
   by-outcome outcome.Accepted goal m e g f =
-      let d = s .d .0 in
+      let d = s .d in
       let o = f refl .1 in
       let is : after x (callOf x s) ≡ record { rec = appended (x .rec) (x .words) d m; words = canonical (length (x .words)) (leftOf (x .rec) (x .words) d m) } =
       ap (λ (k : ℕ). after x (byTick start d k)) (f refl .0) ∙ left-is m o
@@ -119,58 +119,58 @@ module _ (x : State) (s : SFields) (n : ℕ) (st : Stage) (agreed : agrees (x .r
 
   -- the rows by the sign of r, with the count that goes with it
   abbrev countBy : Bool → ℕ
-  countBy b = cond b (countToEnd (x .rec .head) (x .rec .next .0) (s .d .0)) (s .r + 1)
+  countBy b = cond b (countToEnd (x .rec .head) (x .rec .next .0) (s .d)) (s .r + 1)
 
   abbrev rowsBy : Bool → List (Bool × ℕ)
   rowsBy b =
-      cond b (reachRows x (start .0) (s .d .0) (countBy b))
-      (appendRows (x .rec) (x .words) (ltb (x .rec .next .0) (start .0)) (ltb (start .0) (x .rec .next .0)) (s .d .0) (countBy b))
+      cond b (reachRows x (start .0) (s .d) (countBy b))
+      (appendRows (x .rec) (x .words) (ltb (x .rec .next .0) (start .0)) (ltb (start .0) (x .rec .next .0)) (s .d) (countBy b))
 
   -- the count that the reader looks for
   abbrev searched : ℕ
-  searched = leastCount (x .rec .head) (x .rec .next .0) (s .d .0)
+  searched = leastCount (x .rec .head) (x .rec .next .0) (s .d)
 
-  plain-number : negative s ≡ false → lowest (appendedRows x s) ≡ outcomeNumber (appendOutcome (x .rec) (x .words) standing (s .d .0) (s .r + 1))
+  plain-number : negative s ≡ false → lowest (appendedRows x s) ≡ outcomeNumber (appendOutcome (x .rec) (x .words) standing (s .d) (s .r + 1))
   plain-number e =
       ap (λ b. lowest (rowsBy b)) e ∙
-      sym (append (x .rec) (x .words) (s .d .0) (s .r + 1) narrow start) ∙
-      ap outcomeNumber (told (appendOutcome (x .rec) (x .words) standing (s .d .0) (s .r + 1)) _ _)
+      sym (append (x .rec) (x .words) (s .d) (s .r + 1) narrow start) ∙
+      ap outcomeNumber (told (appendOutcome (x .rec) (x .words) standing (s .d) (s .r + 1)) _ _)
 
   module _ (e : negative s ≡ true) where
-    negative-number : lowest (appendedRows x s) ≡ outcomeNumber (reachOutcome (x .rec) (x .words) standing (s .d .0) searched)
-    negative-number = ap (λ b. lowest (rowsBy b)) e ∙ sym (reach-number x start (s .d .0) agreed narrow)
+    negative-number : lowest (appendedRows x s) ≡ outcomeNumber (reachOutcome (x .rec) (x .words) standing (s .d) searched)
+    negative-number = ap (λ b. lowest (rowsBy b)) e ∙ sym (reach-number x start (s .d) agreed narrow)
 
     -- accepted, it is an append of the count that the rows have
-    negative-taken : reachOutcome (x .rec) (x .words) standing (s .d .0) searched ≡ outcome.Accepted →
-        (countOf x s ≡ searched) × (appendOutcome (x .rec) (x .words) standing (s .d .0) searched ≡ outcome.Accepted)
+    negative-taken : reachOutcome (x .rec) (x .words) standing (s .d) searched ≡ outcome.Accepted →
+        (countOf x s ≡ searched) × (appendOutcome (x .rec) (x .words) standing (s .d) searched ≡ outcome.Accepted)
     negative-taken o = (
       ap countBy e ∙ sym same,
-      ap (appendOutcome (x .rec) (x .words) standing (s .d .0)) same ∙ sym (told (appendOutcome (x .rec) (x .words) standing (s .d .0) (countBy true)) _ _) ∙ passed .taken,
+      ap (appendOutcome (x .rec) (x .words) standing (s .d)) same ∙ sym (told (appendOutcome (x .rec) (x .words) standing (s .d) (countBy true)) _ _) ∙ passed .taken,
     )
       where
-        passed : Reaches x start (s .d .0) (countBy true) agreed narrow
+        passed : Reaches x start (s .d) (countBy true) agreed narrow
         passed =
-            reach-only x start (s .d .0) (countBy true) agreed narrow
-            (λ z. count-least (x .rec .head) (x .rec .next .0) (s .d .0) (omega (arith, eqb-false (s .d .0) 0 z)) .some)
-            (sym (reach-number x start (s .d .0) agreed narrow) ∙ ap outcomeNumber o)
+            reach-only x start (s .d) (countBy true) agreed narrow
+            (λ z. count-least (x .rec .head) (x .rec .next .0) (s .d) (omega (arith, eqb-false (s .d) 0 z)) .some)
+            (sym (reach-number x start (s .d) agreed narrow) ∙ ap outcomeNumber o)
 
         begins : (b : Bool) → beforeEnd (x .rec .head) (x .rec .next .0) ≡ b → beforeEnd (x .rec .head) (x .rec .next .0) ≡ true
         begins true f = f
-        begins false f = absurd (true≢false (sym (rows-past x start (s .d .0) agreed narrow (passed .lasts) f) ∙ passed .begins))
+        begins false f = absurd (true≢false (sym (rows-past x start (s .d) agreed narrow (passed .lasts) f) ∙ passed .begins))
 
         same : searched ≡ countBy true
-        same = same-count x start (s .d .0) agreed narrow (passed .lasts) (passed .known) (begins (beforeEnd (x .rec .head) (x .rec .next .0)) refl)
+        same = same-count x start (s .d) agreed narrow (passed .lasts) (passed .known) (begins (beforeEnd (x .rec .head) (x .rec .next .0)) refl)
 
   -- the line by the sign of r
   by-sign : (c : Bool) → ltb (s .r) firstNegative ≡ c →
-      cond c (appendedBy (appendOutcome (x .rec) (x .words) standing (s .d .0) (s .r + 1)) Open before (x .words) (s .d .0) (s .r + 1))
-      (appendedBy (reachOutcome (x .rec) (x .words) standing (s .d .0) searched) Filled before (x .words) (s .d .0) searched) ≡
+      cond c (appendedBy (appendOutcome (x .rec) (x .words) standing (s .d) (s .r + 1)) Open before (x .words) (s .d) (s .r + 1))
+      (appendedBy (reachOutcome (x .rec) (x .words) standing (s .d) searched) Filled before (x .words) (s .d) searched) ≡
       takeS before (x .words) standing s
   unfolding takeS reachesBy
   by-sign c e =
       ap
-      (λ b. cond b (appendedBy (appendOutcome (x .rec) (x .words) standing (s .d .0) (s .r + 1)) Open before (x .words) (s .d .0) (s .r + 1))
-      (appendedBy (reachOutcome (x .rec) (x .words) standing (s .d .0) searched) Filled before (x .words) (s .d .0) searched))
+      (λ b. cond b (appendedBy (appendOutcome (x .rec) (x .words) standing (s .d) (s .r + 1)) Open before (x .words) (s .d) (s .r + 1))
+      (appendedBy (reachOutcome (x .rec) (x .words) standing (s .d) searched) Filled before (x .words) (s .d) searched))
       (sym e)
 
   pub s-taken : Taken x s n (takeS before (x .words) standing s)
@@ -179,9 +179,9 @@ module _ (x : State) (s : SFields) (n : ℕ) (st : Stage) (agreed : agrees (x .r
       go : (b : Bool) → negative s ≡ b → Taken x s n (takeS before (x .words) standing s)
       go false e =
           subst (Taken x s n) (by-sign true (lt-ltb (s .r) firstNegative (leb-false firstNegative (s .r) e)))
-          (by-outcome (appendOutcome (x .rec) (x .words) standing (s .d .0) (s .r + 1)) Open (s .r + 1) (plain-number e) (ap (λ b. cond b Filled Open) e)
+          (by-outcome (appendOutcome (x .rec) (x .words) standing (s .d) (s .r + 1)) Open (s .r + 1) (plain-number e) (ap (λ b. cond b Filled Open) e)
           (λ o. (ap countBy e, o)))
       go true e =
           subst (Taken x s n) (by-sign false (le-ltb (s .r) firstNegative (leb-true firstNegative (s .r) e)))
-          (by-outcome (reachOutcome (x .rec) (x .words) standing (s .d .0) searched) Filled searched (negative-number e) (ap (λ b. cond b Filled Open) e)
+          (by-outcome (reachOutcome (x .rec) (x .words) standing (s .d) searched) Filled searched (negative-number e) (ap (λ b. cond b Filled Open) e)
           (negative-taken e))

@@ -9,6 +9,7 @@ use borrow.Author.Tests.{le-leb, le-ltb, ltb-false}
 use lib.Dec.{ltb}
 use lib.ListN.{length, getD}
 use Rattle.units.specs.declared.Millis.{Millis}
+use Rattle.units.specs.declared.WideMillis.{WideMillis}
 use Rattle.units.specs.declared.Tick.{Tick}
 use Rattle.units.specs.declared.standing.Standing.{Standing}
 use Rattle.units.specs.Limits.{largestMillis, largestSpan}
@@ -109,7 +110,7 @@ module _ (s : State) (t : ℕ) (all : List Reference) (joined : Joined t all) (r
 
 -- ---- a trim
 
-module _ (s : State) (c : Millis) (o : trimOutcome (s .rec) (s .words) c ≡ Accepted) where
+module _ (s : State) (c : WideMillis) (o : trimOutcome (s .rec) (s .words) c ≡ Accepted) where
   trim-keeping : Keeps s (after s (trimAt c)) (max (s .rec .clock .0) (c .0)) (keptBy s)
   trim-keeping =
       let a = trim-agreed (s .rec) (s .words) c o in
@@ -124,7 +125,7 @@ module _ (s : State) (c : Millis) (o : trimOutcome (s .rec) (s .words) c ≡ Acc
   trim-counts : (after s (trimAt c) .rec .accepted ≡ s .rec .accepted) × (after s (trimAt c) .rec .next ≡ s .rec .next)
   trim-counts = (ap (λ x. x .rec .accepted) (trim-done s c o), ap (λ x. x .rec .next) (trim-done s c o))
 
-module _ (rec : Record) (ws : List ℕ) (c : Millis) (a : agrees rec ws ≡ true) (l : c .0 ≤ rec .clock .0) where
+module _ (rec : Record) (ws : List ℕ) (c : WideMillis) (a : agrees rec ws ≡ true) (l : c .0 ≤ rec .clock .0) where
   facts : tests.Agreeing rec ws
   facts = tests.agreeing rec ws a
 

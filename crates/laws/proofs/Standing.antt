@@ -22,7 +22,7 @@ use Rattle.laws.proofs.Changing.{append}
 use Rattle.laws.proofs.Reach.{count-least, to-end}
 use Rattle.laws.proofs.NoRow.{number-accepted, append-none, reach-only, reach-if}
 
-module _ (x : State) (s : SFields) (agreed : agrees (x .rec) (x .words) ≡ true) (narrow : s .d .0 ≤ largestSpan) where
+module _ (x : State) (s : SFields) (agreed : agrees (x .rec) (x .words) ≡ true) (narrow : s .d ≤ largestSpan) where
   abbrev start : WideTick
   start = record { 0 = startOf (x .rec .next .0) s }
 
@@ -30,17 +30,17 @@ module _ (x : State) (s : SFields) (agreed : agrees (x .rec) (x .words) ≡ true
   abbrev rowsBy : Bool → ℕ → ℕ
   rowsBy b n =
       lowest
-      (cond b (reachRows x (start .0) (s .d .0) n)
-      (appendRows (x .rec) (x .words) (ltb (x .rec .next .0) (start .0)) (ltb (start .0) (x .rec .next .0)) (s .d .0) n))
+      (cond b (reachRows x (start .0) (s .d) n)
+      (appendRows (x .rec) (x .words) (ltb (x .rec .next .0) (start .0)) (ltb (start .0) (x .rec .next .0)) (s .d) n))
 
   abbrev toEnd : ℕ
-  toEnd = countToEnd (x .rec .head) (x .rec .next .0) (s .d .0)
+  toEnd = countToEnd (x .rec .head) (x .rec .next .0) (s .d)
 
   abbrev countBy : Bool → ℕ
   countBy b = cond b toEnd (s .r + 1)
 
-  least : eqb (s .d .0) 0 ≡ false → Least (x .rec .head) (x .rec .next .0) (s .d .0) toEnd
-  least z = count-least (x .rec .head) (x .rec .next .0) (s .d .0) (omega (arith, eqb-false (s .d .0) 0 z))
+  least : eqb (s .d) 0 ≡ false → Least (x .rec .head) (x .rec .next .0) (s .d) toEnd
+  least z = count-least (x .rec .head) (x .rec .next .0) (s .d) (omega (arith, eqb-false (s .d) 0 z))
 
   not-below : negative s ≡ true → {A : Type 0} → s .r < firstNegative → A
   not-below e l = absurd (false≢true (sym (lt-leb firstNegative (s .r) l) ∙ e))
@@ -55,12 +55,12 @@ module _ (x : State) (s : SFields) (agreed : agrees (x .rec) (x .words) ≡ true
       go false e = (
         (countOf x s, record { more = λ l. ap countBy e; known = not-above e; least = not-above e }, refl),
         number-accepted (outcomeOf x (callOf x s))
-            (append (x .rec) (x .words) (s .d .0) (countOf x s) narrow start ∙ sym (ap (λ b. rowsBy b (countOf x s)) e) ∙ zero),
+            (append (x .rec) (x .words) (s .d) (countOf x s) narrow start ∙ sym (ap (λ b. rowsBy b (countOf x s)) e) ∙ zero),
       )
       go true e =
           let is : countOf x s ≡ toEnd = ap countBy e in
           let r =
-          reach-only x start (s .d .0) (countOf x s) agreed narrow (λ z. subst⁻¹ (λ (n : ℕ). 1 ≤ n) is (least z .some))
+          reach-only x start (s .d) (countOf x s) agreed narrow (λ z. subst⁻¹ (λ (n : ℕ). 1 ≤ n) is (least z .some))
           (sym (ap (λ b. rowsBy b (countOf x s)) e) ∙ zero)
           in (
             (
@@ -68,7 +68,7 @@ module _ (x : State) (s : SFields) (agreed : agrees (x .rec) (x .words) ≡ true
               record {
                 more = not-below e;
                 known = λ l. omega (arith, eqb-false (x .rec .head .duration .0) 0 (r .known));
-                least = λ l. subst⁻¹ (Least (x .rec .head) (x .rec .next .0) (s .d .0)) is (least (r .lasts));
+                least = λ l. subst⁻¹ (Least (x .rec .head) (x .rec .next .0) (s .d)) is (least (r .lasts));
               },
               refl,
             ),
@@ -76,28 +76,28 @@ module _ (x : State) (s : SFields) (agreed : agrees (x .rec) (x .words) ≡ true
           )
 
   pub s-if : (c : Call) → StandsFor x s c → outcomeOf x c ≡ Accepted → (c ≡ callOf x s) × (lowest (appendedRows x s) ≡ 0)
-  s-if c (n, g, e) o = (e ∙ ap (byTick start (s .d .0)) (count (negative s) refl), rows (negative s) refl)
+  s-if c (n, g, e) o = (e ∙ ap (byTick start (s .d)) (count (negative s) refl), rows (negative s) refl)
     where
-      taken : outcomeOf x (byTick start (s .d .0) n) ≡ Accepted
+      taken : outcomeOf x (byTick start (s .d) n) ≡ Accepted
       taken = subst (λ d. outcomeOf x d ≡ Accepted) e o
 
-      lasts : 1 ≤ s .d .0
+      lasts : 1 ≤ s .d
       lasts =
-          let z = or-none (eqb (s .d .0) 0) (eqb n 0) (append-none x start (s .d .0) n agreed narrow taken .1 .0) .0 in
-          omega (arith, eqb-false (s .d .0) 0 z)
+          let z = or-none (eqb (s .d) 0) (eqb n 0) (append-none x start (s .d) n agreed narrow taken .1 .0) .0 in
+          omega (arith, eqb-false (s .d) 0 z)
 
       count : (b : Bool) → negative s ≡ b → n ≡ countOf x s
       count false b = g .more (leb-false firstNegative (s .r) b) ∙ sym (ap countBy b)
       count true b =
-          to-end (x .rec .head) (x .rec .next .0) (s .d .0) n lasts .if (g .least (leb-true firstNegative (s .r) b)) ∙ sym (ap countBy b)
+          to-end (x .rec .head) (x .rec .next .0) (s .d) n lasts .if (g .least (leb-true firstNegative (s .r) b)) ∙ sym (ap countBy b)
 
       counted : outcomeOf x (callOf x s) ≡ Accepted
-      counted = subst (λ (m : ℕ). outcomeOf x (byTick start (s .d .0) m) ≡ Accepted) (count (negative s) refl) taken
+      counted = subst (λ (m : ℕ). outcomeOf x (byTick start (s .d) m) ≡ Accepted) (count (negative s) refl) taken
 
       rows : (b : Bool) → negative s ≡ b → lowest (appendedRows x s) ≡ 0
       rows false b =
-          ap (λ t. rowsBy t (countOf x s)) b ∙ sym (append (x .rec) (x .words) (s .d .0) (countOf x s) narrow start) ∙ ap outcomeNumber counted
+          ap (λ t. rowsBy t (countOf x s)) b ∙ sym (append (x .rec) (x .words) (s .d) (countOf x s) narrow start) ∙ ap outcomeNumber counted
       rows true b =
           ap (λ t. rowsBy t (countOf x s)) b ∙
-          reach-if x start (s .d .0) (countOf x s) agreed narrow counted
+          reach-if x start (s .d) (countOf x s) agreed narrow counted
           (ne-eqb (x .rec .head .duration .0) 0 (λ z. let w : ⊥ = omega (arith, g .known (leb-true firstNegative (s .r) b)) in w))

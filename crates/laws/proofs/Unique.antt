@@ -31,10 +31,15 @@ entries =
       availability = record { any = λ κs a. tt; one = λ κs a x y e f p q. same p q };
       available-at = record { any = λ κs a. tt; one = λ κs a x y e f p q. same p q };
       touching-words = record { any = λ κs a. tt; one = λ κs a x y e f p q. same p q };
+      verdict-number = record { any = λ κs a. tt; one = λ κs a x y e f p q. same p q };
+      availability-number = record { any = λ κs a. tt; one = λ κs a x y e f p q. same p q };
+      available-number = record { any = λ κs a. tt; one = λ κs a x y e f p q. same p q };
+      touching-number = record { any = λ κs a. tt; one = λ κs a x y e f p q. same p q };
       touching-any = λ κs a. tt;
       touching = λ κs a x y e f p q. same p q;
       read = record { any = λ κs a. tt; one = λ κs a x y e f p q. same (p .0) (q .0); words = λ κs a x y e f p q. same (p .1) (q .1) };
       write = record { any = λ κs a. tt; one = λ κs a x y e f p q. same (p .0) (q .0); words = λ κs a x y e f p q. same (p .1) (q .1) };
+      write-number = record { any = λ κs a. tt; one = λ κs a x y e f p q. same p q };
       begins = record { any = λ κs a. tt; one = λ κs a x y e f p q. same p q };
       feed = record { any = λ κs a. tt; one = λ κs a x y e f p q. same (p .0) (q .0); words = λ κs a x y e f p q. same (p .1) (q .1) };
       finish = record { any = λ κs a. tt; one = λ κs a x y e f p q. same (p .0) (q .0); words = λ κs a x y e f p q. same (p .1) (q .1) };
@@ -61,6 +66,8 @@ entries =
       is-reached = record { any = λ κs a. tt; one = λ κs a x y e f p q. same p q };
       refusal-number = record { any = λ κs a. tt; one = λ κs a x y e f p q. same p q };
       head-held = record { any = λ κs a. tt; one = λ κs a x y e f p q. same p q };
+      head-new = record { any = λ κs a. tt; one = λ κs a x y e f p q. same p q };
+      head-fields = record { any = λ κs a. tt; one = λ κs a x y e f p q. same p q };
       line-length = record { any = λ κs a. tt; one = λ κs a x y e f p q. same p q };
       read-line = record { any = λ κs a. tt; one = λ κs a x y e f p q. same p q };
       are-digits = record { any = λ κs a. tt; one = λ κs a x y e f p q. same p q };
@@ -106,4 +113,5 @@ inner =
       clear = λ κs a x y e f p q. same p q;
       tick-grains = λ κs a x y e f p q. ap (λ (n : ℕ). record { 0 = n }) (same (p .is) (q .is));
       millis-grains = λ κs a x y e f p q. ap (λ (n : ℕ). record { 0 = n }) (same (p .is) (q .is));
+      span-grains = λ κs a x y e f p q. ap (λ (n : ℕ). record { 0 = n }) (same (p .is) (q .is));
     }

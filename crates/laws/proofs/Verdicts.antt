@@ -7,8 +7,8 @@ use Prim.Native.Nat.{ℕ, _≤_}
 use native.Mathlib.Omega.{arith}
 use borrow.Author.Tests.{eqb-true, eq-eqb, ne-eqb, leb-true, leb-false, le-leb, lt-leb, not-true, not-false}
 use lib.Dec.{eqb, leb}
-use Rattle.units.specs.Limits.{largestMillis, millisHeld}
-use Rattle.units.specs.declared.Millis.{Millis}
+use Rattle.units.specs.Limits.{largestMillis, clockHeld}
+use Rattle.units.specs.declared.WideMillis.{WideMillis}
 use Rattle.units.specs.declared.WideTick.{WideTick}
 use Rattle.window.specs.declared.Head.{Head}
 use Rattle.window.specs.declared.Reference.{Reference}
@@ -187,7 +187,7 @@ module _ (rec : Record) (ws : List ℕ) where
   never-refused w =
       refused-never (neededCount (rec .head) w) (coveredCount (rec .head) w (kept rec ws)) (lowestLacking (rec .head) w (kept rec ws))
 
-  module _ (c : Millis) where
+  module _ (c : WideMillis) where
     asked-only : (t : Verdict) → isRefused t ≡ false → verdictAt rec ws c ≡ t → Asked rec ws c × (of-window (atClock rec c) ≡ t)
     unfolding of-window
     asked-only t o =
@@ -235,7 +235,7 @@ module _ (rec : Record) (ws : List ℕ) where
         back : {x : Refusal} → NotAsked rec ws c x → verdictAt rec ws c ≡ Refused x
         back (disagree e) =
             ap
-            (λ s. cond s (cond (millisHeld c) (cond (leb (rec .clock .0) (c .0)) (of-window (atClock rec c)) (Refused EarlierClock)) (Refused ClockLimit)) (Refused Disagreement))
+            (λ s. cond s (cond (clockHeld c) (cond (leb (rec .clock .0) (c .0)) (of-window (atClock rec c)) (Refused EarlierClock)) (Refused ClockLimit)) (Refused Disagreement))
             e
         back (over e l) =
             ap₂
@@ -244,7 +244,7 @@ module _ (rec : Record) (ws : List ℕ) where
             (lt-leb (c .0) largestMillis l)
         back (early e l m) =
             ap
-            (λ s. cond s (cond (millisHeld c) (cond (leb (rec .clock .0) (c .0)) (of-window (atClock rec c)) (Refused EarlierClock)) (Refused ClockLimit)) (Refused Disagreement))
+            (λ s. cond s (cond (clockHeld c) (cond (leb (rec .clock .0) (c .0)) (of-window (atClock rec c)) (Refused EarlierClock)) (Refused ClockLimit)) (Refused Disagreement))
             e ∙
             ap₂ (λ s t. cond s (cond t (of-window (atClock rec c)) (Refused EarlierClock)) (Refused ClockLimit)) (le-leb (c .0) largestMillis l)
             (lt-leb (rec .clock .0) (c .0) m)
@@ -318,7 +318,7 @@ hundred-by v e =
       if = λ q. is-hundred (verdictPercent v) (e ∙ ap complete (q .1));
     }
 
-pub hundred-at : (rec : Record) (ws : List ℕ) (c : Millis) → ExactlyWhen (verdictPercent (verdictAt rec ws c) ≡ Of 100) ((n : ℕ) × (verdictAt rec ws c ≡ Complete n))
+pub hundred-at : (rec : Record) (ws : List ℕ) (c : WideMillis) → ExactlyWhen (verdictPercent (verdictAt rec ws c) ≡ Of 100) ((n : ℕ) × (verdictAt rec ws c ≡ Complete n))
 hundred-at rec ws c = hundred-by (verdictAt rec ws c) (percent-at rec ws c)
 
 pub hundred-whole : (rec : Record) (ws : List ℕ) → ExactlyWhen (verdictPercent (verdictWhole rec ws) ≡ Of 100) ((n : ℕ) × (verdictWhole rec ws ≡ Complete n))

@@ -10,7 +10,7 @@ use lib.ListN.{length}
 use Rattle.units.specs.declared.Tick.{Tick}
 use Rattle.units.specs.Limits.{tickHeld}
 use Rattle.window.specs.declared.Head.{Head}
-use Rattle.window.specs.Limits.{headHeld}
+use Rattle.window.specs.Limits.{headHeld, headOf, fieldsOf}
 use Rattle.agreement.specs.declared.refusal.Refusal.the-variants.{OverLimit}
 use Rattle.agreement.specs.Agreement.{agrees}
 use Rattle.keeping.specs.declared.Outcome.the-variants.{Accepted}
@@ -197,14 +197,14 @@ pub record Whole (came : List ℕ) (fs : List Frame) (rest : List ℕ) : Type 0 
   pub accepted : AllAccepted (opening head (openingTick s) came) cs
 
 whole-of : (came : List ℕ) (h : Head) (s : SFields) (fs : List Frame) (rest : List ℕ) → openOutcome h (openingTick s) ≡ Accepted →
-    After 0 (opening h (openingTick s) came) s fs rest → Whole came (HeadFrame h ∷ S s ∷ fs) rest
+    After 0 (opening h (openingTick s) came) s fs rest → Whole came (HeadFrame (fieldsOf h) ∷ S s ∷ fs) rest
 whole-of came h s fs rest o r =
     record {
       head = h;
       s = s;
       ss = r .ss;
       cs = r .cs;
-      frames = ap (λ gs. HeadFrame h ∷ S s ∷ gs) (r .frames ∙ ap (λ (j : ℕ). map S (r .ss) ++ End j ∷ []) (omega arith));
+      frames = ap (λ gs. HeadFrame (fieldsOf h) ∷ S s ∷ gs) (r .frames ∙ ap (λ (j : ℕ). map S (r .ss) ++ End j ∷ []) (omega arith));
       done = r .done;
       last = r .last;
       opens = o;
@@ -219,7 +219,7 @@ open-first false rows e = (refl, e)
 
 module _ (came : List ℕ) (rest : List ℕ) where
   headed-only : (h : Head) (x : State) (fs : List Frame) → AllNarrow fs → judged came (at afterHead h 0 x) 2 fs rest .number ≡ 0 →
-      Whole came (HeadFrame h ∷ fs) rest
+      Whole came (HeadFrame (fieldsOf h) ∷ fs) rest
   unfolding judged
   headed-only h x [] w e = let z : ⊥ = omega arith in absurd z
   headed-only h x (HeadFrame g ∷ fs) w e = let z : ⊥ = omega arith in absurd z
@@ -243,9 +243,9 @@ module _ (came : List ℕ) (rest : List ℕ) where
   pub whole-only : (fs : List Frame) → AllNarrow fs → judged came (beginning came) 1 fs rest .number ≡ 0 → Whole came fs rest
   unfolding judged
   whole-only [] w e = let z : ⊥ = omega arith in absurd z
-  whole-only (HeadFrame h ∷ fs) w e =
-      headed-only h (beginning came .timeline) fs (w .1)
-      (unless-zero came 1 (lowest (lineRows came (beginning came) (HeadFrame h))) (judged came (at afterHead h 0 (beginning came .timeline)) 2 fs rest) e .1)
+  whole-only (HeadFrame f ∷ fs) w e =
+      headed-only (headOf f) (beginning came .timeline) fs (w .1)
+      (unless-zero came 1 (lowest (lineRows came (beginning came) (HeadFrame f))) (judged came (at afterHead (headOf f) 0 (beginning came .timeline)) 2 fs rest) e .1)
   whole-only (S s ∷ fs) w e = let z : ⊥ = omega arith in absurd z
   whole-only (End m ∷ fs) w e = let z : ⊥ = omega arith in absurd z
   whole-only (Clock c ∷ fs) w e = let z : ⊥ = omega arith in absurd z
@@ -321,7 +321,7 @@ module _ (came : List ℕ) (h : Head) where
       let place = cond (negative s) afterNegative afterS in
       let tail = map S ss ++ End (length (s ∷ ss)) ∷ [] in
       let none = no-over came h s o in
-      goes-on came (beginning came) 1 (HeadFrame h) (S s ∷ tail) [] (head-row came h (openingTick s) o) ∙
+      goes-on came (beginning came) 1 (HeadFrame (fieldsOf h)) (S s ∷ tail) [] (head-row came h (openingTick s) o) ∙
       goes-on came (at afterHead h 0 (beginning came .timeline)) 2 (S s) tail [] (ap (λ b. lowest ((b, 1) ∷ appendedRows x s)) none ∙ is .1) ∙
       ap (λ (j : ℕ). judged came (at place h 1 y) 3 (map S ss ++ End j ∷ []) []) (omega arith) ∙
       either-sign came h (negative s) ss 1 y 3 (negative-last s ss l) ∙

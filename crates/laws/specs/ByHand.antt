@@ -6,8 +6,8 @@ use mathlib.Core.List.{List, [], _∷_, _++_}
 use lib.IntN.{pos}
 use lib.ListN.{length, drop, replicate}
 use Rattle.units.specs.declared.Grain.{Grain}
-use Rattle.units.specs.declared.Millis.{Millis}
-use Rattle.units.specs.declared.Number.{Number}
+use Rattle.units.specs.declared.WideMillis.{WideMillis}
+use Rattle.units.specs.declared.WideNumber.{WideNumber}
 use Rattle.units.specs.declared.Stamp.{Stamp}
 use Rattle.units.specs.declared.Tick.{Tick}
 use Rattle.units.specs.declared.WideTick.{WideTick}
@@ -45,10 +45,10 @@ wide n = record { 0 = n }
 abbrev pub stamp : ℕ → Stamp
 stamp n = record { 0 = n }
 
-abbrev pub millis : ℕ → Millis
+abbrev pub millis : ℕ → WideMillis
 millis n = record { 0 = n }
 
-abbrev pub number : ℕ → Number
+abbrev pub number : ℕ → WideNumber
 number n = record { 0 = n }
 
 abbrev pub grains : ℕ → Grain
@@ -95,7 +95,7 @@ trimOf s c = outcomeOf s (trimAt (millis c))
 
 -- head, accepted, dropped, next tick, greatest clock, used runs, and the words
 abbrev pub stateOf : Head → ℕ → ℕ → ℕ → ℕ → ℕ → List ℕ → State
-stateOf h a d t c u ws = record { rec = record { head = h; accepted = a; dropped = d; next = tick t; clock = millis c; used = u }; words = ws }
+stateOf h a d t c u ws = record { rec = record { head = h; accepted = a; dropped = d; next = tick t; clock = record { 0 = c }; used = u }; words = ws }
 
 -- ---- the cases
 

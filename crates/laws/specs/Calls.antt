@@ -3,7 +3,7 @@
 -- accepted. Paper: Record and table; Append and trim.
 use Prim.Native.Nat.{ℕ, _+_, _*_, _≤_, max}
 use mathlib.Core.List.{List, [], _∷_, _++_}
-use Rattle.units.specs.declared.Millis.{Millis}
+use Rattle.units.specs.declared.WideMillis.{WideMillis}
 use Rattle.units.specs.declared.Stamp.{Stamp}
 use Rattle.units.specs.declared.Tick.{Tick}
 use Rattle.units.specs.declared.WideTick.{WideTick}
@@ -25,7 +25,7 @@ use Rattle.timeline.specs.Trimming.{trimAnswer, trimTable}
 pub data Call : Type 0 where
   byTick : WideTick → ℕ → ℕ → Call
   byStamp : Stamp → ℕ → ℕ → Call
-  trimAt : Millis → Call
+  trimAt : WideMillis → Call
 
 -- a duration is a 32-bit number
 abbrev pub Plain : List Call → Type 0

@@ -14,8 +14,9 @@ use denote.Ref.{now}
 use denote.Triple.Clauses.{AtExit}
 use lib.Dec.{eqb}
 use lib.ListN.{length, replicate}
-use Rattle.units.specs.Limits.{largestSpan}
+use Rattle.units.specs.Limits.{largestSpan, tickOf}
 use Rattle.window.specs.declared.Head.{Head}
+use Rattle.window.specs.Limits.{headOf}
 use Rattle.agreement.specs.declared.Record.{Record}
 use Rattle.agreement.specs.declared.refusal.Refusal.{Refusal}
 use Rattle.keeping.specs.declared.Changed.{Changed}
@@ -117,9 +118,9 @@ pub record Answers {n : ℕ} (ps : List (PK n)) (r : RK n) (asked : In n ps) (sa
   pub right : (κs : Lfts n) (a : Dens κs ps) (x : resT r κs .Denot) (e : AtExit (endedOf n ps r) κs) → said κs a x e → so κs a x e
 
 pub record Demand1 : Type 0 where
-  -- opening: head, first tick, table
+  -- opening: head fields, first tick, table
   pub opening : Answers timeline.«open».Kinds.ps timeline.«open».Kinds.r timeline.«open».Reads.Asked timeline.«open».Reads.Learnt
-      (λ κs a x e. Changes x (now (e .1 .1 .0)) (openRows (a .0) (a .1 .0)) zeroRecord (now (a .1 .1 .0)))
+      (λ κs a x e. Changes x (now (e .1 .1 .0)) (openRows (headOf (a .0)) (tickOf (a .1 .0))) zeroRecord (now (a .1 .1 .0)))
   -- appends: record, table, start or stamp, duration, count; a duration is one of 32 bits, as its type says
   pub append : Answers timeline.append.Kinds.ps timeline.append.Kinds.r timeline.append.Reads.Asked timeline.append.Reads.Learnt
       (λ κs a x e. a .1 .1 .1 .0 ≤ largestSpan →

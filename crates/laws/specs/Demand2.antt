@@ -13,8 +13,8 @@ use lib.IntN.{ℤ, pos, _+ℤ_, _-ℤ_, _*ℤ_}
 use lib.ListN.{length, take}
 use lib.Signed.{leZ, ltZ}
 use Rattle.units.specs.declared.Grain.{Grain}
-use Rattle.units.specs.declared.Millis.{Millis}
-use Rattle.units.specs.declared.Number.{Number}
+use Rattle.units.specs.declared.WideMillis.{WideMillis}
+use Rattle.units.specs.declared.WideNumber.{WideNumber}
 use Rattle.units.specs.declared.WideTick.{WideTick}
 use Rattle.units.specs.declared.standing.Standing.the-variants.{Joins}
 use Rattle.units.specs.Limits.{largestMillis}
@@ -77,7 +77,7 @@ abbrev pub NeedsNone : Head → Stretch → Type 0
 NeedsNone h w = (k : ℕ) → tickNeeded h w k ≡ false
 
 -- a verdict at a clock may be asked: record and table agree, and the clock is within its limit and not before the greatest
-pub record Asked (rec : Record) (ws : List ℕ) (c : Millis) : Type 0 where
+pub record Asked (rec : Record) (ws : List ℕ) (c : WideMillis) : Type 0 where
   pub agreed : agrees rec ws ≡ true
   pub limit : c .0 ≤ largestMillis
   pub later : rec .clock .0 ≤ c .0
@@ -88,7 +88,7 @@ pub record AskedWhole (rec : Record) (ws : List ℕ) : Type 0 where
   pub known : 1 ≤ rec .head .duration .0
 
 -- why it may not: 2, then 10, then 11, and 2, then 19
-pub data NotAsked (rec : Record) (ws : List ℕ) (c : Millis) : Refusal → Type 0 where
+pub data NotAsked (rec : Record) (ws : List ℕ) (c : WideMillis) : Refusal → Type 0 where
   disagree : agrees rec ws ≡ false → NotAsked rec ws c refusal.Disagreement
   over : agrees rec ws ≡ true → largestMillis < c .0 → NotAsked rec ws c refusal.ClockLimit
   early : agrees rec ws ≡ true → c .0 ≤ largestMillis → c .0 < rec .clock .0 → NotAsked rec ws c refusal.EarlierClock
@@ -98,7 +98,7 @@ pub data NotAskedWhole (rec : Record) (ws : List ℕ) : Refusal → Type 0 where
   unknown : agrees rec ws ≡ true → rec .head .duration .0 ≡ 0 → NotAskedWhole rec ws refusal.EndUnknown
 
 -- the window of a record at a clock, and its whole period
-abbrev pub atClock : Record → Millis → Stretch
+abbrev pub atClock : Record → WideMillis → Stretch
 atClock rec c = windowAt (rec .head) (c .0)
 
 abbrev pub inWhole : Record → Stretch
@@ -110,7 +110,7 @@ inWhole rec = wholePeriod (rec .head)
 abbrev pub firstKept : Record → ℕ
 firstKept rec = rec .head .first .0 + rec .dropped
 
-abbrev pub numbered : ℕ → Number
+abbrev pub numbered : ℕ → WideNumber
 numbered n = record { 0 = n }
 
 abbrev pub grain : ℤ → Grain
@@ -125,7 +125,7 @@ abbrev pub endsAt : Head → Reference → ℤ
 endsAt h r = startsAt h r +ℤ pos (h .depth .0 * h .timescale .0) +ℤ pos (r .span .0 * 1000)
 
 -- a reference is available at a clock: from its start on, and before its end where it has one
-pub record Offered (h : Head) (r : Reference) (c : Millis) : Type 0 where
+pub record Offered (h : Head) (r : Reference) (c : WideMillis) : Type 0 where
   pub from : leZ (startsAt h r) (pos (c .0 * h .timescale .0)) ≡ true
   pub upto : 1 ≤ h .depth .0 → ltZ (pos (c .0 * h .timescale .0)) (endsAt h r) ≡ true
 
@@ -174,26 +174,26 @@ pub record Least (h : Head) (s d n : ℕ) : Type 0 where
 
 pub record Demand2 : Type 0 where
   -- a verdict at a clock, and of the whole period: each case exactly when
-  pub complete-at : (rec : Record) (ws : List ℕ) (c : Millis) (n : ℕ) →
+  pub complete-at : (rec : Record) (ws : List ℕ) (c : WideMillis) (n : ℕ) →
       ExactlyWhen (verdictAt rec ws c ≡ verdict.Complete n) (Asked rec ws c × Completes (rec .head) (atClock rec c) (kept rec ws) n)
   pub complete-whole : (rec : Record) (ws : List ℕ) (n : ℕ) →
       ExactlyWhen (verdictWhole rec ws ≡ verdict.Complete n) (AskedWhole rec ws × Completes (rec .head) (inWhole rec) (kept rec ws) n)
-  pub lacking-at : (rec : Record) (ws : List ℕ) (c : Millis) (n m : ℕ) (k : WideTick) →
+  pub lacking-at : (rec : Record) (ws : List ℕ) (c : WideMillis) (n m : ℕ) (k : WideTick) →
       ExactlyWhen (verdictAt rec ws c ≡ verdict.Lacking n m k) (Asked rec ws c × Lacks (rec .head) (atClock rec c) (kept rec ws) n m (k .0))
   pub lacking-whole : (rec : Record) (ws : List ℕ) (n m : ℕ) (k : WideTick) →
       ExactlyWhen (verdictWhole rec ws ≡ verdict.Lacking n m k) (AskedWhole rec ws × Lacks (rec .head) (inWhole rec) (kept rec ws) n m (k .0))
-  pub nothing-at : (rec : Record) (ws : List ℕ) (c : Millis) →
+  pub nothing-at : (rec : Record) (ws : List ℕ) (c : WideMillis) →
       ExactlyWhen (verdictAt rec ws c ≡ verdict.Nothing) (Asked rec ws c × NeedsNone (rec .head) (atClock rec c))
   pub nothing-whole : (rec : Record) (ws : List ℕ) →
       ExactlyWhen (verdictWhole rec ws ≡ verdict.Nothing) (AskedWhole rec ws × NeedsNone (rec .head) (inWhole rec))
-  pub refused-at : (rec : Record) (ws : List ℕ) (c : Millis) (why : Refusal) →
+  pub refused-at : (rec : Record) (ws : List ℕ) (c : WideMillis) (why : Refusal) →
       ExactlyWhen (verdictAt rec ws c ≡ verdict.Refused why) (NotAsked rec ws c why)
   pub refused-whole : (rec : Record) (ws : List ℕ) (why : Refusal) →
       ExactlyWhen (verdictWhole rec ws ≡ verdict.Refused why) (NotAskedWhole rec ws why)
   -- a test is passed by one number of numbers, whatever the bound
   pub one-count : (p : ℕ → Bool) (m n : ℕ) → Many p m → Many p n → m ≡ n
   -- the percent is 100 exactly when the verdict is complete
-  pub hundred-at : (rec : Record) (ws : List ℕ) (c : Millis) →
+  pub hundred-at : (rec : Record) (ws : List ℕ) (c : WideMillis) →
       ExactlyWhen (verdictPercent (verdictAt rec ws c) ≡ Of 100) ((n : ℕ) × (verdictAt rec ws c ≡ verdict.Complete n))
   pub hundred-whole : (rec : Record) (ws : List ℕ) →
       ExactlyWhen (verdictPercent (verdictWhole rec ws) ≡ Of 100) ((n : ℕ) × (verdictWhole rec ws ≡ verdict.Complete n))
@@ -204,11 +204,11 @@ pub record Demand2 : Type 0 where
   pub available-ever : (rec : Record) (ws : List ℕ) → agrees rec ws ≡ true → rec .head .depth .0 ≡ 0 →
       (xs ys : List Reference) (r : Reference) → kept rec ws ≡ xs ++ r ∷ ys →
       availabilityIn rec ws (numbered (firstKept rec + length xs)) ≡ availability.NeverEnds (grain (startsAt (rec .head) r))
-  pub available-at : (rec : Record) (ws : List ℕ) → agrees rec ws ≡ true → (c : Millis) → c .0 ≤ largestMillis →
+  pub available-at : (rec : Record) (ws : List ℕ) → agrees rec ws ≡ true → (c : WideMillis) → c .0 ≤ largestMillis →
       (xs ys : List Reference) (r : Reference) → kept rec ws ≡ xs ++ r ∷ ys →
       ExactlyWhen (availableIn rec ws (numbered (firstKept rec + length xs)) c ≡ at.Yes) (Offered (rec .head) r c)
   -- where record and table disagree every number is refused with 2, and else one that no kept reference has with 13
-  pub available-disagreed : (rec : Record) (ws : List ℕ) (n : Number) → agrees rec ws ≡ false →
+  pub available-disagreed : (rec : Record) (ws : List ℕ) (n : WideNumber) → agrees rec ws ≡ false →
       availabilityIn rec ws n ≡ availability.Refused refusal.Disagreement
   pub not-kept : (rec : Record) (ws : List ℕ) → agrees rec ws ≡ true →
       (n : ℕ) → ((i : ℕ) → i < length (kept rec ws) → n ≡ firstKept rec + i → ⊥) →
@@ -225,6 +225,6 @@ pub record Demand2 : Type 0 where
   -- a negative r on an S line that joins before a known end: so many references are appended, judged as any append from 6 on
   pub least-count : (h : Head) (s d n : ℕ) → 1 ≤ d → 1 ≤ h .duration .0 → beforeEnd h s ≡ true →
       ExactlyWhen (n ≡ leastCount h s d) (Least h s d n)
-  pub negative-r : (r : Reading) (ws : List ℕ) (s : SFields) (n : ℕ) → firstNegative ≤ s .r → 1 ≤ s .d .0 → 1 ≤ r .rec .head .duration .0 →
-      beforeEnd (r .rec .head) (r .rec .next .0) ≡ true → Least (r .rec .head) (r .rec .next .0) (s .d .0) n →
-      takeS r ws Joins s ≡ appendedBy (fitOutcome (r .rec) ws (s .d .0) n) Filled r ws (s .d .0) n
+  pub negative-r : (r : Reading) (ws : List ℕ) (s : SFields) (n : ℕ) → firstNegative ≤ s .r → 1 ≤ s .d → 1 ≤ r .rec .head .duration .0 →
+      beforeEnd (r .rec .head) (r .rec .next .0) ≡ true → Least (r .rec .head) (r .rec .next .0) (s .d) n →
+      takeS r ws Joins s ≡ appendedBy (fitOutcome (r .rec) ws (s .d) n) Filled r ws (s .d) n

@@ -1,5 +1,6 @@
 pub mod ByHand
 pub mod Calls
+pub mod Constructors
 pub mod Demand2
 pub mod Desk
 pub mod History

@@ -10,6 +10,7 @@ use lib.ListN.{length, replicate}
 use Rattle.units.specs.declared.Tick.{Tick}
 use Rattle.units.specs.Limits.{largestTick, largestNumber}
 use Rattle.window.specs.declared.Head.{Head}
+use Rattle.window.specs.Limits.{headOf}
 use Rattle.agreement.specs.declared.Record.{Record}
 use Rattle.timeline.specs.Opening.{zeroRecord}
 use Rattle.frames.specs.declared.Frame.{Frame}
@@ -45,11 +46,11 @@ countToEnd h s d = leastFrom (reaching h s d) (enough h) 1
 
 -- how many references it gives: r of 0 or more means r + 1
 abbrev pub countOf : State → SFields → ℕ
-countOf x s = cond (negative s) (countToEnd (x .rec .head) (x .rec .next .0) (s .d .0)) (s .r + 1)
+countOf x s = cond (negative s) (countToEnd (x .rec .head) (x .rec .next .0) (s .d)) (s .r + 1)
 
 -- the append that it stands for
 abbrev pub callOf : State → SFields → Call
-callOf x s = byTick (record { 0 = startOf (x .rec .next .0) s }) (s .d .0) (countOf x s)
+callOf x s = byTick (record { 0 = startOf (x .rec .next .0) s }) (s .d) (countOf x s)
 
 -- ---- which kind of line may stand where
 
@@ -105,8 +106,8 @@ abbrev pub appendedRows : State → SFields → List (Bool × ℕ)
 appendedRows x s =
     let start = startOf (x .rec .next .0) s in
     cond (negative s)
-    (reachRows x start (s .d .0) (countOf x s))
-    (appendRows (x .rec) (x .words) (ltb (x .rec .next .0) start) (ltb start (x .rec .next .0)) (s .d .0) (countOf x s))
+    (reachRows x start (s .d) (countOf x s))
+    (appendRows (x .rec) (x .words) (ltb (x .rec .next .0) start) (ltb start (x .rec .next .0)) (s .d) (countOf x s))
 
 -- the timeline that an S line is judged on: the first S opens it at its own tick
 abbrev pub isFirst : Sofar → Bool
@@ -128,7 +129,7 @@ abbrev pub stopRows : Sofar → List ℕ → List (Bool × ℕ)
 stopRows x rest = (ltb 0 (length (mayStand (x .place))), 16) ∷ (ltb 0 (length rest), 16) ∷ []
 
 abbrev pub fieldRows : List ℕ → Sofar → Frame → List (Bool × ℕ)
-fieldRows came x (HeadFrame h) = headRows h
+fieldRows came x (HeadFrame f) = headRows (headOf f)
 fieldRows came x (S s) = sRows came x s
 fieldRows came x (End n) = endRows x n
 fieldRows came x (Clock c) = []
@@ -145,7 +146,7 @@ lineRows came x f =
 
 -- what a line that is not refused leaves: an S line its append
 abbrev pub taking : List ℕ → Sofar → Frame → Sofar
-taking came x (HeadFrame h) = record { place = afterHead; head = h; count = 0; timeline = x .timeline }
+taking came x (HeadFrame f) = record { place = afterHead; head = headOf f; count = 0; timeline = x .timeline }
 taking came x (S s) =
     let y = timelineFor came x s in
     record { place = cond (negative s) afterNegative afterS; head = x .head; count = x .count + 1; timeline = after y (callOf y s) }

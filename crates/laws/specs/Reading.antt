@@ -7,6 +7,7 @@ use mathlib.Core.Path.{_≡_}
 use mathlib.Core.List.{List, [], _∷_, _++_, map}
 use lib.ListN.{length}
 use Rattle.window.specs.declared.Head.{Head}
+use Rattle.window.specs.Limits.{fieldsOf}
 use Rattle.keeping.specs.declared.Outcome.the-variants.{Accepted}
 use Rattle.keeping.specs.Keeping.{outcomeNumber}
 use Rattle.timeline.specs.Opening.{openAnswer}
@@ -25,7 +26,7 @@ use Rattle.laws.specs.Lines.{startOf, openingTick, countToEnd, judgedFil
 
 -- one head, the S lines, one end with their number
 abbrev pub fileFrames : Head → List SFields → List Frame
-fileFrames h ss = HeadFrame h ∷ map S ss ++ End (length ss) ∷ []
+fileFrames h ss = HeadFrame (fieldsOf h) ∷ map S ss ++ End (length ss) ∷ []
 
 -- every field of every line can be written over its width
 abbrev pub AllFit : List Frame → Type 0
@@ -47,11 +48,11 @@ pub record Gives (x : State) (s : SFields) (n : ℕ) : Type 0 where
   -- a negative r asks for a known end
   pub known : 2 ^ 31 ≤ s .r → 1 ≤ x .rec .head .duration .0
   -- and means the least count, one at least, whose end reaches or passes it
-  pub least : 2 ^ 31 ≤ s .r → Least (x .rec .head) (x .rec .next .0) (s .d .0) n
+  pub least : 2 ^ 31 ≤ s .r → Least (x .rec .head) (x .rec .next .0) (s .d) n
 
 -- the append that it stands for: its duration, and its start or the previous end
 abbrev pub StandsFor : State → SFields → Call → Type 0
-StandsFor x s c = (n : ℕ) × Gives x s n × (c ≡ byTick (record { 0 = startOf (x .rec .next .0) s }) (s .d .0) n)
+StandsFor x s c = (n : ℕ) × Gives x s n × (c ≡ byTick (record { 0 = startOf (x .rec .next .0) s }) (s .d) n)
 
 -- S lines and the calls that they stand for, each at the timeline that those before it left
 abbrev pub StandFor : State → List SFields → List Call → Type 0

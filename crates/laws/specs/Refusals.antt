@@ -11,8 +11,8 @@ use lib.ListN.{length}
 use Rattle.units.specs.declared.Tick.{Tick}
 use Rattle.units.specs.declared.WideTick.{WideTick}
 use Rattle.units.specs.declared.Stamp.{Stamp}
-use Rattle.units.specs.declared.Millis.{Millis}
-use Rattle.units.specs.declared.Number.{Number}
+use Rattle.units.specs.declared.WideMillis.{WideMillis}
+use Rattle.units.specs.declared.WideNumber.{WideNumber}
 use Rattle.units.specs.Limits.{largestTick, largestSpan, largestMillis, largestTimescale, largestNumber}
 use Rattle.units.specs.Standing.{less32, tickStanding, stampStanding}
 use Rattle.window.specs.declared.Head.{Head}
@@ -88,25 +88,25 @@ appendStampRows rec ws stamp d n =
 abbrev pub openRows : Head → Tick → List (Bool × ℕ)
 openRows h t = (overLimit h t, 1) ∷ []
 
-abbrev pub trimRows : Record → List ℕ → Millis → List (Bool × ℕ)
+abbrev pub trimRows : Record → List ℕ → WideMillis → List (Bool × ℕ)
 trimRows rec ws c = (not (agrees rec ws), 2) ∷ (ltb largestMillis (c .0), 10) ∷ []
 
 -- ---- the calls that look
 
-abbrev pub verdictRows : Record → List ℕ → Millis → List (Bool × ℕ)
+abbrev pub verdictRows : Record → List ℕ → WideMillis → List (Bool × ℕ)
 verdictRows rec ws c = (not (agrees rec ws), 2) ∷ (ltb largestMillis (c .0), 10) ∷ (ltb (c .0) (rec .clock .0), 11) ∷ []
 
 abbrev pub wholeRows : Record → List ℕ → List (Bool × ℕ)
 wholeRows rec ws = (not (agrees rec ws), 2) ∷ (eqb (rec .head .duration .0) 0, 19) ∷ []
 
 -- 13: the number lies before the first kept reference's or after the last one's
-abbrev pub notKept : Record → Number → Bool
+abbrev pub notKept : Record → WideNumber → Bool
 notKept rec n = ltb (n .0) (rec .head .first .0 + rec .dropped) || leb (rec .head .first .0 + rec .accepted) (n .0)
 
-abbrev pub availabilityRows : Record → List ℕ → Number → List (Bool × ℕ)
+abbrev pub availabilityRows : Record → List ℕ → WideNumber → List (Bool × ℕ)
 availabilityRows rec ws n = (not (agrees rec ws), 2) ∷ (notKept rec n, 13) ∷ []
 
-abbrev pub availableRows : Record → List ℕ → Number → Millis → List (Bool × ℕ)
+abbrev pub availableRows : Record → List ℕ → WideNumber → WideMillis → List (Bool × ℕ)
 availableRows rec ws n c = (not (agrees rec ws), 2) ∷ (ltb largestMillis (c .0), 10) ∷ (notKept rec n, 13) ∷ []
 
 abbrev pub touchingRows : Record → List ℕ → WideTick → WideTick → List (Bool × ℕ)
@@ -122,11 +122,11 @@ pub record Refusals : Type 0 where
       outcomeNumber (appendAnswer rec ws (tickStanding start (rec .next)) d n .outcome) ≡ lowest (appendTickRows rec ws start d n)
   pub append-stamp : (rec : Record) (ws : List ℕ) (stamp : Stamp) (d n : ℕ) → d ≤ largestSpan →
       outcomeNumber (appendAnswer rec ws (stampStanding stamp (rec .next)) d n .outcome) ≡ lowest (appendStampRows rec ws stamp d n)
-  pub trim : (rec : Record) (ws : List ℕ) (c : Millis) → outcomeNumber (trimAnswer rec ws c .outcome) ≡ lowest (trimRows rec ws c)
-  pub verdict : (rec : Record) (ws : List ℕ) (c : Millis) → verdictNumber (verdictAt rec ws c) ≡ lowest (verdictRows rec ws c)
+  pub trim : (rec : Record) (ws : List ℕ) (c : WideMillis) → outcomeNumber (trimAnswer rec ws c .outcome) ≡ lowest (trimRows rec ws c)
+  pub verdict : (rec : Record) (ws : List ℕ) (c : WideMillis) → verdictNumber (verdictAt rec ws c) ≡ lowest (verdictRows rec ws c)
   pub verdict-whole : (rec : Record) (ws : List ℕ) → verdictNumber (verdictWhole rec ws) ≡ lowest (wholeRows rec ws)
-  pub availability : (rec : Record) (ws : List ℕ) (n : Number) → availabilityNumber (availabilityIn rec ws n) ≡ lowest (availabilityRows rec ws n)
-  pub available-at : (rec : Record) (ws : List ℕ) (n : Number) (c : Millis) →
+  pub availability : (rec : Record) (ws : List ℕ) (n : WideNumber) → availabilityNumber (availabilityIn rec ws n) ≡ lowest (availabilityRows rec ws n)
+  pub available-at : (rec : Record) (ws : List ℕ) (n : WideNumber) (c : WideMillis) →
       availableNumber (availableIn rec ws n c) ≡ lowest (availableRows rec ws n c)
   pub touching : (rec : Record) (ws : List ℕ) (a b : WideTick) → touchingNumber (touchingWords rec ws a b) ≡ lowest (touchingRows rec ws a b)
   pub write : (rec : Record) (ws : List ℕ) (room : ℕ) → writeNumber (writeAnswer rec ws room) ≡ lowest (writeRows rec ws room)

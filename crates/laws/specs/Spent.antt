@@ -8,7 +8,7 @@ use mathlib.Core.Path.{_≡_}
 use mathlib.Core.Bool.{true, false}
 use mathlib.Core.List.{List, _++_}
 use lib.ListN.{length, getD, drop}
-use Rattle.units.specs.declared.Millis.{Millis}
+use Rattle.units.specs.declared.WideMillis.{WideMillis}
 use Rattle.units.specs.declared.standing.Standing.{Standing}
 use Rattle.units.specs.Limits.{largestTick, largestMillis, largestSpan, largestNumber}
 use Rattle.window.specs.declared.Head.{Head}
@@ -104,12 +104,12 @@ pub record OnlySpent : Type 0 where
   -- record and table agree exactly when the paper's list holds
   pub agree : (rec : Record) (ws : List ℕ) → ExactlyWhen (agrees rec ws ≡ true) (Agreeing rec ws)
   -- an accepted trim: of what is kept, what is still needed at the greater clock. Accepted and the next tick stay
-  pub trim : (s : State) (c : Millis) → trimOutcome (s .rec) (s .words) c ≡ Accepted →
+  pub trim : (s : State) (c : WideMillis) → trimOutcome (s .rec) (s .words) c ≡ Accepted →
       Keeps s (after s (trimAt c)) (max (s .rec .clock .0) (c .0)) (keptBy s)
-  pub trim-counts : (s : State) (c : Millis) → trimOutcome (s .rec) (s .words) c ≡ Accepted →
+  pub trim-counts : (s : State) (c : WideMillis) → trimOutcome (s .rec) (s .words) c ≡ Accepted →
       (after s (trimAt c) .rec .accepted ≡ s .rec .accepted) × (after s (trimAt c) .rec .next ≡ s .rec .next)
   -- a trim at an earlier clock is accepted, and leaves the record and every word as they were
-  pub trim-earlier : (rec : Record) (ws : List ℕ) (c : Millis) → agrees rec ws ≡ true → c .0 ≤ rec .clock .0 →
+  pub trim-earlier : (rec : Record) (ws : List ℕ) (c : WideMillis) → agrees rec ws ≡ true → c .0 ≤ rec .clock .0 →
       (trimAnswer rec ws c ≡ record { outcome = Accepted; rec = rec }) × (trimTable rec ws c ≡ ws)
   -- an accepted append: of what is kept and what is given, what is still needed at the greatest clock. All that is given is
   -- counted as accepted, and the next tick is where it ends

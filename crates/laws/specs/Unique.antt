@@ -66,6 +66,10 @@ pub record Entries : Type 0 where
   pub availability : Entry answers.times.availability.Kinds.ps answers.times.availability.Kinds.r answers.times.availability.Reads.Asked answers.times.availability.Reads.Learnt
   pub available-at : Entry answers.times.available_at.Kinds.ps answers.times.available_at.Kinds.r answers.times.available_at.Reads.Asked answers.times.available_at.Reads.Learnt
   pub touching-words : Entry answers.spans.touching_words.Kinds.ps answers.spans.touching_words.Kinds.r answers.spans.touching_words.Reads.Asked answers.spans.touching_words.Reads.Learnt
+  pub verdict-number : Entry answers.Verdict.number.Kinds.ps answers.Verdict.number.Kinds.r answers.Verdict.number.Reads.Asked answers.Verdict.number.Reads.Learnt
+  pub availability-number : Entry answers.Availability.number.Kinds.ps answers.Availability.number.Kinds.r answers.Availability.number.Reads.Asked answers.Availability.number.Reads.Learnt
+  pub available-number : Entry answers.AvailableAt.number.Kinds.ps answers.AvailableAt.number.Kinds.r answers.AvailableAt.number.Reads.Asked answers.AvailableAt.number.Reads.Learnt
+  pub touching-number : Entry answers.Touching.number.Kinds.ps answers.Touching.number.Kinds.r answers.Touching.number.Reads.Asked answers.Touching.number.Reads.Learnt
   -- the part handed back, by its words
   pub touching-any : AnyInput answers.spans.touching.Kinds.ps answers.spans.touching.Kinds.r answers.spans.touching.Reads.Asked
   pub touching : (κs : Lfts 1) (a : Dens κs answers.spans.touching.Kinds.ps) (x y : resT answers.spans.touching.Kinds.r κs .Denot) (e f : AtExit (endedOf 1 answers.spans.touching.Kinds.ps answers.spans.touching.Kinds.r) κs) →
@@ -73,6 +77,7 @@ pub record Entries : Type 0 where
   -- file
   pub read : Lending file.read.Kinds.ps file.read.Kinds.r file.read.Reads.Asked file.read.Reads.Learnt (λ κs e. now (e .1 .0))
   pub write : Lending file.write.Kinds.ps file.write.Kinds.r file.write.Reads.Asked file.write.Reads.Learnt (λ κs e. now (e .1 .1 .0))
+  pub write-number : Entry file.WriteAnswer.number.Kinds.ps file.WriteAnswer.number.Kinds.r file.WriteAnswer.number.Reads.Asked file.WriteAnswer.number.Reads.Learnt
   pub begins : Entry file.begin.Kinds.ps file.begin.Kinds.r file.begin.Reads.Asked file.begin.Reads.Learnt
   pub feed : Lending file.feed.Kinds.ps file.feed.Kinds.r file.feed.Reads.Asked file.feed.Reads.Learnt (λ κs e. now (e .1 .0))
   pub finish : Lending file.finish.Kinds.ps file.finish.Kinds.r file.finish.Reads.Asked file.finish.Reads.Learnt (λ κs e. now (e .1 .0))
@@ -104,6 +109,8 @@ pub record Entries : Type 0 where
   pub refusal-number : Entry agreement.refusal.Refusal.number.Kinds.ps agreement.refusal.Refusal.number.Kinds.r agreement.refusal.Refusal.number.Reads.Asked agreement.refusal.Refusal.number.Reads.Learnt
   -- window
   pub head-held : Entry window.Head.held.Kinds.ps window.Head.held.Kinds.r window.Head.held.Reads.Asked window.Head.held.Reads.Learnt
+  pub head-new : Entry window.Head.new.Kinds.ps window.Head.new.Kinds.r window.Head.new.Reads.Asked window.Head.new.Reads.Learnt
+  pub head-fields : Entry window.Head.fields.Kinds.ps window.Head.fields.Kinds.r window.Head.fields.Reads.Asked window.Head.fields.Reads.Learnt
   -- frames and hex
   pub line-length : Entry frames.line_length.Kinds.ps frames.line_length.Kinds.r frames.line_length.Reads.Asked frames.line_length.Reads.Learnt
   pub read-line : Entry frames.read_line.Kinds.ps frames.read_line.Kinds.r frames.read_line.Reads.Asked frames.read_line.Reads.Learnt
@@ -149,3 +156,4 @@ pub record Inner : Type 0 where
   pub clear : OneLent runs.table.clear.Kinds.ps runs.table.clear.Kinds.r runs.table.clear.Reads.Learnt (λ κs e. now (e .0))
   pub tick-grains : OneResult units.Tick.grains.Kinds.ps units.Tick.grains.Kinds.r units.Tick.grains.Reads.Learnt
   pub millis-grains : OneResult units.Millis.grains.Kinds.ps units.Millis.grains.Kinds.r units.Millis.grains.Reads.Learnt
+  pub span-grains : OneResult units.Span.grains.Kinds.ps units.Span.grains.Kinds.r units.Span.grains.Reads.Learnt

@@ -1,6 +1,6 @@
 -- What a clock line asks, by its frame; and of a line that is too long the first bytes are enough to see it.
 use mathlib.Core.Path.{_≡_, refl, sym, ap, _∙_}
-use mathlib.Core.Bool.{Bool, true, false, cond, not}
+use mathlib.Core.Bool.{Bool, true, false, cond}
 use mathlib.Core.List.{List, [], _∷_}
 use Prim.Native.Nat.{ℕ, _<_}
 use native.Mathlib.Omega.{arith}
@@ -11,8 +11,12 @@ use lib.Dec.{eqb, leb}
 use lib.ListN.{length, take, length-take}
 use lib.Seq.{take-all}
 use Rattle.units.specs.declared.Millis.{Millis}
-use Rattle.units.specs.Limits.{millisHeld}
-use Rattle.units.proofs.Guards.{refused, allowed, same, other}
+use Rattle.units.specs.declared.MillisMade.{MillisMade}
+use Rattle.units.specs.declared.MillisMade.the-variants as millis
+use Rattle.units.specs.declared.WideMillis.{WideMillis}
+use Rattle.units.specs.Limits.{millisMade, clockHeld}
+use Rattle.units.proofs.Guards.{same, other}
+use Rattle.units.proofs.Makers.{milliseconds, clock-over, clock-made}
 use Rattle.agreement.specs.declared.refusal.Refusal.the-variants.{ClockLimit, BadLine}
 use Rattle.frames.specs.declared.Frame.{Frame}
 use Rattle.frames.specs.declared.Frame.the-variants as frame
@@ -37,7 +41,7 @@ module _ (line : List ℕ) (f : Frame) (e : f ≡ frameOf line) where
   unfolding askedOn
   asks-nothing o = not-clock f o ∙ ap askedBy e
 
-  module _ (c : Millis) (k : f ≡ frame.Clock c) where
+  module _ (c : WideMillis) (k : f ≡ frame.Clock c) where
     asks-by : askedBy (frame.Clock c) ≡ askedOn line
     unfolding askedOn
     asks-by = ap askedBy (sym k ∙ e)
@@ -45,16 +49,16 @@ module _ (line : List ℕ) (f : Frame) (e : f ≡ frameOf line) where
     pub asks-whole : c .0 ≡ allOnes → Whole ≡ askedOn line
     asks-whole all = same (c .0) allOnes _ _ all ∙ asks-by
 
-    module _ (some : c .0 ≡ allOnes → ⊥) (t : Bool) (h : t ≡ millisHeld c) where
-      pub asks-over : not t ≡ true → Refused ClockLimit ≡ askedOn line
-      asks-over n = other (c .0) allOnes _ _ _ some (refused t (millisHeld c) _ _ h n) ∙ asks-by
+    module _ (some : c .0 ≡ allOnes → ⊥) (m : MillisMade) (h : m ≡ millisMade (c .0)) where
+      pub asks-over : m ≡ millis.Refused → Refused ClockLimit ≡ askedOn line
+      asks-over n = other (c .0) allOnes _ _ _ some (clock-over (c .0) m h _ _ n) ∙ asks-by
 
-      pub asks-at : not t ≡ false → At c ≡ askedOn line
-      asks-at n = other (c .0) allOnes _ _ _ some (allowed t (millisHeld c) _ _ _ h n refl) ∙ asks-by
+      pub asks-at : (at : Millis) → m ≡ millis.Made at → At at ≡ askedOn line
+      asks-at at n = other (c .0) allOnes _ _ _ some (clock-made (c .0) m h at n _ _ _ (ap At (milliseconds .is (c .0) m at h n))) ∙ asks-by
 
 -- ---- a clock line has 18 digits
 
-clock-long : (line : List ℕ) (c : Millis) → frameOf line ≡ frame.Clock c → length line ≡ 18
+clock-long : (line : List ℕ) (c : WideMillis) → frameOf line ≡ frame.Clock c → length line ≡ 18
 clock-long line c e = ap length (sym (line-read-written line (frame.Clock c) e refl)) ∙ length-line (frame.Clock c) (read-fits line (frame.Clock c) e refl)
 
 other-length : (line : List ℕ) → 18 < length line → askedOn line ≡ Refused BadLine
@@ -86,11 +90,11 @@ asks-by-frame : (f : Frame) → askedBy f ≡ Unheard → ⊥
 asks-by-frame (frame.Head h) = other-asked (Refused BadLine) (λ e. cc)
 asks-by-frame (frame.S s) = other-asked (Refused BadLine) (λ e. cc)
 asks-by-frame (frame.End n) = other-asked (Refused BadLine) (λ e. cc)
-asks-by-frame (frame.Clock c) = go (eqb (c .0) allOnes) (millisHeld c)
+asks-by-frame (frame.Clock c) = go (eqb (c .0) allOnes) (clockHeld c)
   where
-    go : (s t : Bool) → cond s Whole (cond t (At c) (Refused ClockLimit)) ≡ Unheard → ⊥
+    go : (s t : Bool) → cond s Whole (cond t (At (record { 0 = c .0 })) (Refused ClockLimit)) ≡ Unheard → ⊥
     go true t = other-asked Whole (λ e. cc)
-    go false true = other-asked (At c) (λ e. cc)
+    go false true = other-asked (At (record { 0 = c .0 })) (λ e. cc)
     go false false = other-asked (Refused ClockLimit) (λ e. cc)
 asks-by-frame frame.Bad = other-asked (Refused BadLine) (λ e. cc)
 

@@ -7,7 +7,8 @@ use lib.Dec.{eqb}
 use lib.ListN.{length, replicate}
 use Rattle.units.specs.declared.standing.Standing.the-variants.{Joins}
 use Rattle.window.specs.declared.Head.{Head}
-use Rattle.window.specs.Limits.{headHeld}
+use Rattle.units.specs.Limits.{tickOf}
+use Rattle.window.specs.Limits.{headHeld, headOf}
 use Rattle.agreement.specs.declared.refusal.Refusal.the-variants.{OverLimit, BadLine}
 use Rattle.keeping.specs.declared.Outcome.{Outcome}
 use Rattle.keeping.specs.declared.Outcome.the-variants as outcome
@@ -65,7 +66,7 @@ module _ (r : Reading) (u v : List ℕ) (l : length u ≡ length v) where
 
   nothing-same : (f : Frame) → Same (onNothing r u f) (onNothing r v f)
   unfolding onNothing
-  nothing-same (HeadFrame h) = head-same h
+  nothing-same (HeadFrame f) = head-same (headOf f)
   nothing-same (S s) = record { reading = refl; words = l }
   nothing-same (End n) = record { reading = refl; words = l }
   nothing-same (Clock c) = record { reading = refl; words = l }
@@ -74,13 +75,13 @@ module _ (r : Reading) (u v : List ℕ) (l : length u ≡ length v) where
   opened-same : (o : Outcome) (s : SFields) → Same (openedBy o r u s) (openedBy o r v s)
   opened-same outcome.Accepted s =
       equal _ _
-      (ap (λ (n : ℕ). takeS (record { stage = Headed; lines = r .lines; rec = freshRecord (r .rec .head) (firstTick (s .t)) }) (replicate n 0) Joins s) l)
+      (ap (λ (n : ℕ). takeS (record { stage = Headed; lines = r .lines; rec = freshRecord (r .rec .head) (tickOf (firstTick (s .t))) }) (replicate n 0) Joins s) l)
   opened-same (outcome.Refused why) s = record { reading = refl; words = l }
 
   headed-same : (f : Frame) → Same (onHeaded r u f) (onHeaded r v f)
   unfolding onHeaded takeFirstS
   headed-same (HeadFrame h) = record { reading = refl; words = l }
-  headed-same (S s) = opened-same (openOutcome (r .rec .head) (firstTick (s .t))) s
+  headed-same (S s) = opened-same (openOutcome (r .rec .head) (tickOf (firstTick (s .t)))) s
   headed-same (End n) = record { reading = refl; words = l }
   headed-same (Clock c) = record { reading = refl; words = l }
   headed-same Bad = record { reading = refl; words = l }

@@ -7,8 +7,8 @@ use native.Mathlib.Nat.{mul-div-cancel-left}
 use native.Mathlib.Omega.{arith}
 use borrow.Author.Tests.{eqb-false, le-leb}
 use lib.Dec.{eqb, leb}
-use Rattle.units.specs.declared.Millis.{Millis}
-use Rattle.units.specs.Limits.{millisHeld}
+use Rattle.units.specs.declared.WideMillis.{WideMillis}
+use Rattle.units.specs.Limits.{clockHeld}
 use Rattle.window.specs.declared.Head.{Head}
 use Rattle.window.specs.declared.Reference.{Reference}
 use Rattle.window.specs.Place.{endKnown}
@@ -27,8 +27,8 @@ use Rattle.answers.proofs.Counting.{count-less}
 use Rattle.report.specs.Text.{PercentRight}
 
 -- of no more than is needed, where some is
-shown : (c n : ℕ) → eqb n 0 ≡ false → c ≤ n → percentNumber (percentOf c n) ≡ c * 100 / n
-shown c n e l = ap₂ (λ s t. percentNumber (cond s Undefined (cond t (Of (c * 100 / n)) Undefined))) e (le-leb c n l)
+shown : (n c : ℕ) → eqb n 0 ≡ false → c ≤ n → percentNumber (percentOf n c) ≡ c * 100 / n
+shown n c e l = ap₂ (λ s t. percentNumber (cond s Undefined (cond t (Of (c * 100 / n)) Undefined))) e (le-leb c n l)
 
 judged-right : (n c l : ℕ) → c ≤ n → PercentRight (judged n c l)
 judged-right n c l m = go (eqb n 0) refl (eqb c n)
@@ -39,14 +39,14 @@ judged-right n c l m = go (eqb n 0) refl (eqb c n)
         let apart : n ≡ 0 → ⊥ = eqb-false n 0 e in
         let some : 0 < n = omega arith in
         shown n n e (omega arith) ∙ mul-div-cancel-left 100 some
-    go false e false = shown c n e m
+    go false e false = shown n c e m
 
 verdict-right : (h : Head) (w : Stretch) (rs : List Reference) → PercentRight (verdictOf h w rs)
 verdict-right h w rs =
     judged-right (neededCount h w) (coveredCount h w rs) (lowestLacking h w rs) (count-less (tickNeeded h w) (coveredBy rs) (beyond h w))
 
-pub percent-right-at : (rec : Record) (ws : List ℕ) (c : Millis) → PercentRight (verdictAt rec ws c)
-percent-right-at rec ws c = go (agrees rec ws) (millisHeld c) (leb (rec .clock .0) (c .0))
+pub percent-right-at : (rec : Record) (ws : List ℕ) (c : WideMillis) → PercentRight (verdictAt rec ws c)
+percent-right-at rec ws c = go (agrees rec ws) (clockHeld c) (leb (rec .clock .0) (c .0))
   where
     v : Verdict
     v = verdictOf (rec .head) (windowAt (rec .head) (c .0)) (kept rec ws)

@@ -7,7 +7,9 @@ use borrow.Author.Tests.{eqb-false}
 use lib.Dec.{lit<, lit≤, leb}
 use lib.ListN.{replicate}
 use Rattle.units.specs.declared.Millis.{Millis}
-use Rattle.units.specs.Limits.{millisHeld}
+use Rattle.units.specs.declared.WideMillis.{WideMillis}
+use Rattle.units.specs.Limits.{clockHeld}
+use Rattle.window.specs.Limits.{headOf}
 use Rattle.units.specs.declared.WideTick.{WideTick}
 use Rattle.window.specs.declared.Needed.{Needed}
 use Rattle.window.specs.declared.Needed.the-variants as needed
@@ -71,7 +73,7 @@ unended = refl
 abbrev recordB : Record
 recordB =
     record {
-      head = headFrom 1;
+      head = headOf (headFrom 1);
       accepted = 5;
       dropped = 0;
       next = record { 0 = 20_000 };
@@ -96,11 +98,11 @@ agreesB = refl
 
 -- ---- its verdicts
 
-by-clock : (c : Millis) → millisHeld c ≡ true → leb 0 (c .0) ≡ true → (x : Needed) (v : Verdict) → NeededTicks (recordB .head) (windowAt (recordB .head) (c .0)) x →
+by-clock : (c : WideMillis) → clockHeld c ≡ true → leb 0 (c .0) ≡ true → (x : Needed) (v : Verdict) → NeededTicks (recordB .head) (windowAt (recordB .head) (c .0)) x →
     v ≡ verdictBy (named x) (inRange 0 20_000) (pastNamed x) → verdictAt recordB tableWide c ≡ v
 by-clock c m l x v n e =
     let u : Verdict = verdictOf (recordB .head) (windowAt (recordB .head) (c .0)) (kept recordB tableWide) in
-    ap (λ s. cond s (cond (millisHeld c) (cond (leb 0 (c .0)) u (verdict.Refused EarlierClock)) (verdict.Refused ClockLimit)) (verdict.Refused Disagreement)) agreesB ∙
+    ap (λ s. cond s (cond (clockHeld c) (cond (leb 0 (c .0)) u (verdict.Refused EarlierClock)) (verdict.Refused ClockLimit)) (verdict.Refused Disagreement)) agreesB ∙
     ap₂ (λ s t. cond s (cond t u (verdict.Refused EarlierClock)) (verdict.Refused ClockLimit)) m l ∙
     sym (agreed-verdict recordB tableWide agreesB (windowAt (recordB .head) (c .0)) x 0 v n (first-reach recordB tableWide agreesB (eqb-false 1 0 refl)) e)
 
@@ -135,7 +137,7 @@ module _ (input : List ℕ) (file : behindFirst input ≡ fileB) (a : Asked) (e 
       ap₂ (λ (x : Asked) (f : List ℕ). textOf (replyOn x (readAnswer f (replicate tableLength 0)) (readTable f (replicate tableLength 0)))) e file ∙
       ap₂ (λ (x : ReadAnswer) (ws : List ℕ). textOf (replyOn a x ws)) readB wordsB
 
-at-clock : (input : List ℕ) → behindFirst input ≡ fileB → (c : Millis) → askedIn input ≡ At c → (v : Verdict) → verdictAt recordB tableWide c ≡ v → answer input ≡ verdictText v
+at-clock : (input : List ℕ) → behindFirst input ≡ fileB → (c : Millis) → askedIn input ≡ At c → (v : Verdict) → verdictAt recordB tableWide (record { 0 = c .0 }) ≡ v → answer input ≡ verdictText v
 unfolding replyOn textOf
 at-clock input file c e v k = of-file input file (At c) e ∙ ap verdictText k
 

@@ -36,12 +36,12 @@ module _ (o : Outcome) (line : ℕ) (v : Verdict) where
 
 module _ (d : Desk) (ws : List ℕ) (read : ReadAnswer) (e : read ≡ finishAnswer (d .reader) ws) (vs : List ℕ) (f : vs ≡ finishTable (d .reader) ws) (v : Verdict) (r : Reply)
     (k : r ≡ replyRead (read .outcome) (read .line) v) where
-  pub told-at : (clock : Millis) → v ≡ verdictAt (read .rec) vs clock → r ≡ replyAt d ws clock
+  pub told-at : (clock : Millis) → v ≡ verdictAt (read .rec) vs (record { 0 = clock .0 }) → r ≡ replyAt d ws clock
   unfolding replyOn
   told-at clock j =
       k ∙
       ap (replyRead (read .outcome) (read .line)) j ∙
-      ap₂ (λ (x : ReadAnswer) (y : List ℕ). replyRead (x .outcome) (x .line) (verdictAt (x .rec) y clock)) e f
+      ap₂ (λ (x : ReadAnswer) (y : List ℕ). replyRead (x .outcome) (x .line) (verdictAt (x .rec) y (record { 0 = clock .0 }))) e f
 
   pub told-whole : v ≡ verdictWhole (read .rec) vs → r ≡ replyWhole d ws
   unfolding replyOn

@@ -20,15 +20,15 @@ use Rattle.report.proofs.Placed.{put-put}
 put-as : (out : List ℕ) (at : ℕ) (s t after : List ℕ) (n : ℕ) → s ≡ t → Put out at s after n → Put out at t after n
 put-as out at s t after n e p = subst (λ (x : List ℕ). Put out at x after n) e p
 
-module _ (covered needed p : ℕ) (pc : Percent) (e : pc ≡ percentOf covered needed) (f : p ≡ percentNumber pc) where
-  share-is : (text : List ℕ) → (((text ++ decimal covered) ++ (47 ∷ decimal needed)) ++ (32 ∷ decimal p)) ++ (37 ∷ 10 ∷ []) ≡ text ++ shareText covered needed
+module _ (needed covered p : ℕ) (pc : Percent) (e : pc ≡ percentOf needed covered) (f : p ≡ percentNumber pc) where
+  share-is : (text : List ℕ) → (((text ++ decimal covered) ++ (47 ∷ decimal needed)) ++ (32 ∷ decimal p)) ++ (37 ∷ 10 ∷ []) ≡ text ++ shareText needed covered
   unfolding shareText bytesOf
   share-is text =
       ap (λ (n : ℕ). (((text ++ decimal covered) ++ (47 ∷ decimal needed)) ++ (32 ∷ decimal n)) ++ (37 ∷ 10 ∷ [])) (f ∙ ap percentNumber e) ∙
       simp append-assoc
 
   pub share-put : (out text out₁ out₂ out₃ : List ℕ) (at a b c : ℕ) → Put out at ((text ++ decimal covered) ++ (47 ∷ decimal needed)) out₁ a →
-      Put out₁ a (32 ∷ decimal p) out₂ b → Put out₂ b (37 ∷ 10 ∷ []) out₃ c → Put out at (text ++ shareText covered needed) out₃ c
+      Put out₁ a (32 ∷ decimal p) out₂ b → Put out₂ b (37 ∷ 10 ∷ []) out₃ c → Put out at (text ++ shareText needed covered) out₃ c
   share-put out text out₁ out₂ out₃ at a b c p₁ p₂ p₃ =
       put-as out at _ _ out₃ c (share-is text) (put-put out at _ out₂ b (put-put out at _ out₁ a p₁ _ out₂ b p₂) _ out₃ c p₃)
 
@@ -45,12 +45,12 @@ module _ (why : Refusal) (number line : ℕ) (e : number ≡ refusalNumber why) 
       put-as out 0 _ _ out₃ c refused-is (put-put out 0 _ out₂ b (put-put out 0 _ out₁ a p₁ _ out₂ b p₂) _ out₃ c p₃)
 
 pub lacking-is : (needed covered : ℕ) (lowest : WideTick) (out out₁ after : List ℕ) (a n : ℕ) →
-    Put out 0 (108 ∷ 97 ∷ 99 ∷ 107 ∷ 105 ∷ 110 ∷ 103 ∷ 32 ∷ decimal (lowest .0)) out₁ a → Put out₁ a (32 ∷ shareText covered needed) after n →
+    Put out 0 (108 ∷ 97 ∷ 99 ∷ 107 ∷ 105 ∷ 110 ∷ 103 ∷ 32 ∷ decimal (lowest .0)) out₁ a → Put out₁ a (32 ∷ shareText needed covered) after n →
     Put out 0 (verdictText (verdict.Lacking needed covered lowest)) after n
 unfolding verdictText bytesOf
 lacking-is needed covered lowest out out₁ after a n p q =
     put-as out 0 _ _ after n
-    (sym (append-assoc (108 ∷ 97 ∷ 99 ∷ 107 ∷ 105 ∷ 110 ∷ 103 ∷ 32 ∷ decimal (lowest .0)) (32 ∷ []) (shareText covered needed)))
+    (sym (append-assoc (108 ∷ 97 ∷ 99 ∷ 107 ∷ 105 ∷ 110 ∷ 103 ∷ 32 ∷ decimal (lowest .0)) (32 ∷ []) (shareText needed covered)))
     (put-put out 0 _ out₁ a p _ after n q)
 
 -- ---- a verdict whose case is known

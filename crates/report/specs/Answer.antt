@@ -39,7 +39,7 @@ replyRead (outcome.Refused why) line v = Refused why line
 -- the reply by what is asked, and by what reading the file came to, in record and table
 unfoldable pub replyOn : Asked → ReadAnswer → List ℕ → Reply
 replyOn asked.Unheard read ws = Refused BadLine 0
-replyOn (asked.At clock) read ws = replyRead (read .outcome) (read .line) (verdictAt (read .rec) ws clock)
+replyOn (asked.At clock) read ws = replyRead (read .outcome) (read .line) (verdictAt (read .rec) ws (record { 0 = clock .0 }))
 replyOn asked.Whole read ws = replyRead (read .outcome) (read .line) (verdictWhole (read .rec) ws)
 replyOn (asked.Refused why) read ws = Refused why 0
 

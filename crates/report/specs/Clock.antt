@@ -4,7 +4,7 @@ use Prim.Native.Nat.{ℕ, _-_, _^_}
 use mathlib.Core.Bool.{cond}
 use mathlib.Core.List.{List}
 use lib.Dec.{eqb}
-use Rattle.units.specs.Limits.{millisHeld}
+use Rattle.units.specs.Limits.{clockHeld}
 use Rattle.agreement.specs.declared.refusal.Refusal.the-variants.{ClockLimit, BadLine}
 use Rattle.frames.specs.declared.Frame.{Frame}
 use Rattle.frames.specs.declared.Frame.the-variants as frame
@@ -17,7 +17,7 @@ allOnes = 2 ^ 64 - 1
 
 -- on the clock line a frame of any other kind is of no known kind
 abbrev pub askedBy : Frame → Asked
-askedBy (frame.Clock c) = cond (eqb (c .0) allOnes) Whole (cond (millisHeld c) (At c) (Refused ClockLimit))
+askedBy (frame.Clock c) = cond (eqb (c .0) allOnes) Whole (cond (clockHeld c) (At (record { 0 = c .0 })) (Refused ClockLimit))
 askedBy (frame.Head h) = Refused BadLine
 askedBy (frame.S s) = Refused BadLine
 askedBy (frame.End n) = Refused BadLine

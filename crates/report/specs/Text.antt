@@ -7,7 +7,7 @@ use mathlib.Core.Bool.{Bool, false, cond, _&&_}
 use mathlib.Core.List.{List, [], _∷_, _++_}
 use lib.Dec.{leb, ltb}
 use Rattle.io.specs.Digits.{digits, Fewest}
-use Rattle.units.specs.declared.Millis.{Millis}
+use Rattle.units.specs.declared.WideMillis.{WideMillis}
 use Rattle.agreement.specs.declared.Record.{Record}
 use Rattle.agreement.specs.declared.refusal.Refusal.{Refusal}
 use Rattle.agreement.specs.Numbers.{refusalNumber}
@@ -35,12 +35,12 @@ decimal n = decimalBy n n
 
 -- a share that has no percent would show 0; no verdict has such a share (`Figures`, below)
 unfoldable pub shareText : ℕ → ℕ → List ℕ
-shareText covered needed =
+shareText needed covered =
     decimal covered ++
     ascii "/" ++
     decimal needed ++
     ascii " " ++
-    decimal (percentNumber (percentOf covered needed)) ++
+    decimal (percentNumber (percentOf needed covered)) ++
     ascii "%" ++
     lineFeed ∷
     []
@@ -51,7 +51,7 @@ refusedText why line = ascii "refused " ++ decimal (refusalNumber why) ++ ascii 
 unfoldable pub verdictText : Verdict → List ℕ
 verdictText verdict.Nothing = ascii "nothing needed" ++ lineFeed ∷ []
 verdictText (verdict.Complete needed) = ascii "complete " ++ shareText needed needed
-verdictText (verdict.Lacking needed covered lowest) = ascii "lacking " ++ decimal (lowest .0) ++ ascii " " ++ shareText covered needed
+verdictText (verdict.Lacking needed covered lowest) = ascii "lacking " ++ decimal (lowest .0) ++ ascii " " ++ shareText needed covered
 verdictText (verdict.Refused why) = refusedText why 0
 
 unfoldable pub textOf : Reply → List ℕ
@@ -64,7 +64,7 @@ textOf (Refused why line) = refusedText why line
 abbrev pub PercentRight : Verdict → Type 0
 PercentRight verdict.Nothing = Unit {0}
 PercentRight (verdict.Complete needed) = percentNumber (percentOf needed needed) ≡ 100
-PercentRight (verdict.Lacking needed covered lowest) = percentNumber (percentOf covered needed) ≡ covered * 100 / needed
+PercentRight (verdict.Lacking needed covered lowest) = percentNumber (percentOf needed covered) ≡ covered * 100 / needed
 PercentRight (verdict.Refused why) = Unit {0}
 
 abbrev pub isDecimal : ℕ → Bool
@@ -82,7 +82,7 @@ readFrom n (b ∷ bs) = cond (isDecimal b) (readFrom (n * 10 + (b - 48)) bs) n
 
 pub record Figures : Type 0 where
   -- the percent is right in every verdict that is asked, at a clock and of the whole period
-  pub percent-at : (rec : Record) (ws : List ℕ) (c : Millis) → PercentRight (verdictAt rec ws c)
+  pub percent-at : (rec : Record) (ws : List ℕ) (c : WideMillis) → PercentRight (verdictAt rec ws c)
   pub percent-whole : (rec : Record) (ws : List ℕ) → PercentRight (verdictWhole rec ws)
   -- the text of a number is one digit, or the text of its tenth and the last digit
   pub decimal-is : (n : ℕ) → decimal n ≡ cond (ltb n 10) (digit n ∷ []) (decimal (n / 10) ++ digit (n % 10) ∷ [])

@@ -6,6 +6,8 @@ ghost use Rattle.report.specs.Input.{firstLine};
 use crate::Asked;
 use agreement::Refusal;
 use frames::Frame;
+use units::Millis;
+use units::MillisMade;
 
 // A clock of all ones is the whole period.
 const WHOLE: u64 = 18_446_744_073_709_551_615;
@@ -35,8 +37,8 @@ pub(crate) fn asked_on(line: &[u8]) -> Asked
     if clock.0 == WHOLE {
         return Asked::Whole;
     }
-    if !clock.held() {
+    let MillisMade::Made(at) = Millis::new(clock.0) else {
         return Asked::Refused(Refusal::ClockLimit);
-    }
-    Asked::At(clock)
+    };
+    Asked::At(at)
 }

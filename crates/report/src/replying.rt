@@ -15,6 +15,7 @@ use answers::Verdict;
 use file::ReadAnswer;
 use keeping::Outcome;
 use units::Millis;
+use units::WideMillis;
 
 // What was read is judged, unless it was refused.
 fn reply_read(read: ReadAnswer, verdict: Verdict) -> Reply
@@ -32,7 +33,7 @@ fn reply_at(desk: Desk, table: &mut [u64], clock: Millis) -> Reply
     ensures { λ _. ⌜ now (table .exit) ≡ finishTable (desk .reader) (now (table .entry)) ⌝ }
 {
     let read = file::finish(desk.reader, table);
-    let verdict = answers::verdicts::verdict(read.rec, table, clock);
+    let verdict = answers::verdicts::verdict(read.rec, table, WideMillis(clock.0));
     reply_read(read, verdict)
 }
 

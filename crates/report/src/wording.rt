@@ -35,8 +35,8 @@ fn put_number(out: &mut [u8], at: usize, text: &[u8], n: u64) -> usize
     put(out, next, &digits[..count])
 }
 
-// Inner, since there must be room: a text and two counts behind it, a slash (47) between them.
-fn put_counts(out: &mut [u8], at: usize, text: &[u8], covered: u64, needed: u64) -> usize
+// Inner, since there must be room: a text, and behind it covered, a slash (47) and needed.
+fn put_counts(out: &mut [u8], at: usize, text: &[u8], needed: u64, covered: u64) -> usize
     requires { ⌜ at + length (now text) + 41 ≤ length (now out) ⌝ }
     ensures { λ r. ⌜ Put (now (out .entry)) at (now (text .entry) ++ decimal covered ++ 47 ∷ decimal needed) (now (out .exit)) r ⌝ }
     ensures { λ r. ⌜ r ≤ at + length (now (text .entry)) + 41 ⌝ }
@@ -46,12 +46,12 @@ fn put_counts(out: &mut [u8], at: usize, text: &[u8], covered: u64, needed: u64)
 }
 
 // Inner, since there must be room: a text and a share behind it.
-fn put_share(out: &mut [u8], at: usize, text: &[u8], covered: u64, needed: u64) -> usize
+fn put_share(out: &mut [u8], at: usize, text: &[u8], needed: u64, covered: u64) -> usize
     requires { ⌜ at + length (now text) + 64 ≤ length (now out) ⌝ }
-    ensures { λ r. ⌜ Put (now (out .entry)) at (now (text .entry) ++ shareText covered needed) (now (out .exit)) r ⌝ }
+    ensures { λ r. ⌜ Put (now (out .entry)) at (now (text .entry) ++ shareText needed covered) (now (out .exit)) r ⌝ }
 {
-    let percent = answers::shares::percent(covered, needed).number();
-    let blank = put_counts(out, at, text, covered, needed);
+    let percent = answers::shares::percent(needed, covered).number();
+    let blank = put_counts(out, at, text, needed, covered);
     let sign = put_number(out, blank, b" ", percent);
     put(out, sign, b"%\n")
 }
@@ -73,7 +73,7 @@ fn put_lacking(out: &mut [u8], needed: u64, covered: u64, lowest: WideTick) -> u
     ensures { λ r. ⌜ Put (now (out .entry)) 0 (verdictText (Lacking needed covered lowest)) (now (out .exit)) r ⌝ }
 {
     let blank = put_number(out, 0, b"lacking ", lowest.0);
-    put_share(out, blank, b" ", covered, needed)
+    put_share(out, blank, b" ", needed, covered)
 }
 
 // Inner, since there must be room.

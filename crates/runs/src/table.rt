@@ -14,6 +14,7 @@ ghost use Rattle.runs.specs.Steps.{withRun, Less, CutAt, needsRun, keptW
 use crate::Run;
 use units::Span;
 use units::Tick;
+use units::WideTick;
 
 // Where a drop cuts the runs: so many whole runs go, and so many references of the run behind them.
 struct Cut {
@@ -44,14 +45,14 @@ fn put_run(table: &mut [u64], i: usize, run: Run)
 }
 
 // Inner, since a reference must last: how many of a run's references have ended by a tick.
-pub fn ended_in(run: Run, t: u64) -> u64
+pub fn ended_in(run: Run, t: WideTick) -> u64
     requires { ⌜ 1 ≤ run .span .0 ⌝ }
-    ensures { λ r. ⌜ r ≡ endedBy t (repeated (run .start .0) (run .span .0) (run .count)) ⌝ }
+    ensures { λ r. ⌜ r ≡ endedBy (t .0) (repeated (run .start .0) (run .span .0) (run .count)) ⌝ }
 {
-    if t < run.start.0 {
+    if t.0 < run.start.0 {
         return 0;
     }
-    let ended = (t - run.start.0) / run.span.0;
+    let ended = (t.0 - run.start.0) / run.span.0;
     if ended < run.count {
         return ended;
     }
@@ -60,9 +61,9 @@ pub fn ended_in(run: Run, t: u64) -> u64
 
 // Inner, since the table must be shaped: how many kept references have ended by a tick. The first
 // run that has not ended whole is the last to look at, since those behind it end later.
-pub fn ended_by(table: &[u64], used: usize, t: u64) -> u64
+pub fn ended_by(table: &[u64], used: usize, t: WideTick) -> u64
     requires { ⌜ shaped used (now table) ≡ true ⌝ }
-    ensures { λ r. ⌜ r ≡ endedBy t (keptIn used (now (table .entry))) ⌝ }
+    ensures { λ r. ⌜ r ≡ endedBy (t .0) (keptIn used (now (table .entry))) ⌝ }
 {
     let mut ended = 0;
     let mut whole = 0;

@@ -1,24 +1,31 @@
 -- The refusals of an append up to 5, in their order, as the code meets them.
 use mathlib.Core.Path.{_≡_, refl, sym, ap, ap₂, _∙_}
-use mathlib.Core.Bool.{Bool, true, false, cond, not, _&&_, _||_}
+use mathlib.Core.Bool.{Bool, true, false, cond, not, _||_}
 use mathlib.Core.List.{List}
 use Prim.Native.Nat.{ℕ}
 use native.Mathlib.Omega.{arith}
-use borrow.Author.Tests.{le-leb, eq-eqb, ne-eqb}
+use borrow.Author.Tests.{eq-eqb, ne-eqb}
 use lib.Dec.{eqb}
+use lib.ListN.{length}
 use mir.Syntax.{w32}
 use mir.Val.{Fits}
 use Rattle.units.specs.declared.standing.Standing.{Standing}
 use Rattle.units.specs.declared.standing.Standing.the-variants.{Joins, Gap, Overlap}
-use Rattle.units.specs.Limits.{largestSpan, spanHeld}
+use Rattle.units.specs.declared.Span.{Span}
+use Rattle.units.specs.declared.SpanMade.{SpanMade}
+use Rattle.units.specs.declared.SpanMade.the-variants as span
+use Rattle.units.specs.Limits.{spanHeld, spanMade}
 use Rattle.units.proofs.Choice.{chosen}
 use Rattle.units.proofs.Guards.{refused}
+use Rattle.units.proofs.Makers as makers
+use Rattle.runs.specs.Encoding.{canonical}
 use Rattle.agreement.specs.declared.Record.{Record}
 use Rattle.agreement.specs.declared.refusal.Refusal.the-variants as refusal
 use Rattle.agreement.specs.Agreement.{agrees}
 use Rattle.keeping.specs.declared.Outcome.the-variants.{Refused}
 use Rattle.keeping.specs.declared.Changed.{Changed}
-use Rattle.keeping.specs.Joined.{fitOutcome}
+use Rattle.keeping.specs.Keeping.{changedBy, wordsBy}
+use Rattle.keeping.specs.Joined.{leftOf, fitOutcome, appended}
 use Rattle.timeline.specs.Appending.{joining, appendOutcome, appendAnswer, appendTable}
 
 module _ (rec : Record) (ws : List ℕ) (st : Standing) (d n : ℕ) where
@@ -53,9 +60,44 @@ module _ (rec : Record) (ws : List ℕ) (st : Standing) (d n : ℕ) where
         pub stands-joins : st ≡ Joins → appendOutcome rec ws st d n ≡ fitOutcome rec ws d n
         stands-joins e = stands ∙ ap (λ s. joining s (fitOutcome rec ws d n)) e
 
--- a duration of 32 bits that is not 0 is held
-pub duration-held : (d : ℕ) → Fits w32 d → (d ≡ 0 → ⊥) → spanHeld (record { 0 = d }) ≡ true
-duration-held d f i = ap₂ _&&_ (le-leb 1 d (omega arith)) (le-leb d largestSpan (omega (arith, f .fits)))
+-- the same by the span that the constructor made of the duration, which is one of 32 bits
+module _ (rec : Record) (ws : List ℕ) (st : Standing) (d n : ℕ) (a : agrees rec ws ≡ true) (made : SpanMade) (e : made ≡ spanMade d) where
+  pub no-span : Fits w32 d → made ≡ span.Refused → appendOutcome rec ws st d n ≡ Refused refusal.NothingGiven
+  no-span f k = no-duration rec ws st d n a (makers.no-duration d made e (omega (arith, f .fits)) k)
+
+  module _ (s : Span) (k : made ≡ span.Made s) where
+    is : s ≡ record { 0 = d }
+    is = makers.duration-is d made e s k
+
+    lasts : d ≡ 0 → ⊥
+    lasts = makers.duration-some d made e s k
+
+    pub span-held : spanHeld s ≡ true
+    span-held = makers.duration-held d made e s k
+
+    pub span-none : n ≡ 0 → appendOutcome rec ws st d n ≡ Refused refusal.NothingGiven
+    span-none z = no-count rec ws st d n a lasts z
+
+    module _ (j : n ≡ 0 → ⊥) where
+      pub span-gap : st ≡ Gap → appendOutcome rec ws st d n ≡ Refused refusal.Gap
+      span-gap g = stands-gap rec ws st d n a lasts j g
+
+      pub span-overlap : st ≡ Overlap → appendOutcome rec ws st d n ≡ Refused refusal.Overlap
+      span-overlap g = stands-overlap rec ws st d n a lasts j g
+
+      module _ (g : st ≡ Joins) where
+        joins : fitOutcome rec ws d n ≡ appendOutcome rec ws st d n
+        joins = sym (stands-joins rec ws st d n a lasts j g)
+
+        pub span-answer : (r : Changed) → r ≡ changedBy (fitOutcome rec ws (s .0) n) (appended rec ws (s .0) n) rec → r ≡ appendAnswer rec ws st d n
+        span-answer r f =
+            f ∙ ap (λ (x : Span). changedBy (fitOutcome rec ws (x .0) n) (appended rec ws (x .0) n) rec) is ∙
+            ap (λ o. changedBy o (appended rec ws d n) rec) joins
+
+        pub span-words : (vs : List ℕ) → vs ≡ wordsBy (fitOutcome rec ws (s .0) n) (canonical (length ws) (leftOf rec ws (s .0) n)) ws → vs ≡ appendTable rec ws st d n
+        span-words vs f =
+            f ∙ ap (λ (x : Span). wordsBy (fitOutcome rec ws (x .0) n) (canonical (length ws) (leftOf rec ws (x .0) n)) ws) is ∙
+            ap (λ o. wordsBy o (canonical (length ws) (leftOf rec ws d n)) ws) joins
 
 -- the standing that was found is the one that is meant
 module _ (rec : Record) (ws : List ℕ) (d n : ℕ) (st meant : Standing) (e : st ≡ meant) where

@@ -9,7 +9,7 @@ use borrow.Author.Tests.{leb-true, le-leb, eqb-false}
 use lib.Dec.{leb, eqb}
 use lib.ListN.{length, getD, replicate, length-append}
 use Rattle.units.specs.declared.Tick.{Tick}
-use Rattle.units.specs.declared.Millis.{Millis}
+use Rattle.units.specs.declared.WideMillis.{WideMillis}
 use Rattle.units.specs.declared.standing.Standing.{Standing}
 use Rattle.units.specs.declared.standing.Standing.the-variants.{Joins, Gap, Overlap}
 use Rattle.units.specs.Limits.{largestTick, largestSpan, largestMillis, tickHeld}
@@ -74,7 +74,7 @@ module _ (h : Head) (t : Tick) (words : ℕ) (o : openOutcome h t ≡ Accepted) 
 
 -- ---- trimming
 
-module _ (rec : Record) (ws : List ℕ) (c : Millis) (a : agrees rec ws ≡ true) (small : c .0 ≤ largestMillis) where
+module _ (rec : Record) (ws : List ℕ) (c : WideMillis) (a : agrees rec ws ≡ true) (small : c .0 ≤ largestMillis) where
   facts : Agreeing rec ws
   facts = agreeing rec ws a
 

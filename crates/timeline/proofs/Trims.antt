@@ -1,6 +1,6 @@
 -- A trim of an agreeing record and table: what is gone stands in front, and the record counts it.
-use mathlib.Core.Path.{_≡_, refl, sym, ap, ap₂, subst, subst⁻¹, _∙_}
-use mathlib.Core.Bool.{Bool, true, false, not}
+use mathlib.Core.Path.{_≡_, sym, ap, ap₂, subst, subst⁻¹, _∙_}
+use mathlib.Core.Bool.{Bool, true, false, cond, not}
 use mathlib.Core.List.{List}
 use Prim.Native.Nat.{ℕ, _+_, _-_, _≤_, _<_, max}
 use native.Mathlib.Nat.{max-eq-left, max-eq-right, max-le, le-of-lt}
@@ -10,8 +10,12 @@ use lib.ListN.{length, getD, drop, length-drop}
 use mir.Syntax.{w64}
 use mir.Val.{Fits}
 use Rattle.units.specs.declared.Millis.{Millis}
-use Rattle.units.specs.Limits.{largestMillis, millisHeld}
-use Rattle.units.proofs.Guards.{told, refused, allowed}
+use Rattle.units.specs.declared.MillisMade.{MillisMade}
+use Rattle.units.specs.declared.MillisMade.the-variants as millis
+use Rattle.units.specs.declared.WideMillis.{WideMillis}
+use Rattle.units.specs.Limits.{largestMillis, millisMade, clockHeld}
+use Rattle.units.proofs.Guards.{refused, allowed}
+use Rattle.units.proofs.Makers.{milliseconds}
 use Rattle.window.specs.declared.Passed.{Passed}
 use Rattle.window.specs.Ticks.{EndsPassed}
 use Rattle.runs.specs.Encoding.{runsFor, canonical}
@@ -34,23 +38,38 @@ module _ (a b : Millis) where
 
 -- ---- the outcome
 
-module _ (rec : Record) (ws : List ℕ) (c : Millis) (t : Bool) (e : t ≡ agrees rec ws) where
+module _ (rec : Record) (ws : List ℕ) (c : WideMillis) (t : Bool) (e : t ≡ agrees rec ws) where
   pub trim-disagrees : not t ≡ true → trimOutcome rec ws c ≡ Refused Disagreement
   unfolding trimOutcome
   trim-disagrees n = sym (refused t _ _ _ e n)
 
-  module _ (n : not t ≡ false) (u : Bool) (k : u ≡ millisHeld c) where
-    pub trim-over : not u ≡ true → trimOutcome rec ws c ≡ Refused ClockLimit
+  module _ (n : not t ≡ false) (made : MillisMade) (k : made ≡ millisMade (c .0)) where
+    by-clock : (b : Bool) → clockHeld c ≡ b → trimOutcome rec ws c ≡ cond b Accepted (Refused ClockLimit)
     unfolding trimOutcome
-    trim-over m = sym (allowed t _ _ _ _ e n (refused u _ _ _ k m))
+    by-clock b j = sym (allowed t _ _ _ _ e n (sym (ap (λ x. cond x Accepted (Refused ClockLimit)) j)))
 
-    module _ (m : not u ≡ false) where
+    pub trim-over : made ≡ millis.Refused → trimOutcome rec ws c ≡ Refused ClockLimit
+    trim-over m = by-clock false (milliseconds .beyond (c .0) made k m)
+
+    module _ (at : Millis) (m : made ≡ millis.Made at) where
+      held : clockHeld c ≡ true
+      held = milliseconds .within (c .0) made at k m
+
+      is : at ≡ record { 0 = c .0 }
+      is = milliseconds .is (c .0) made at k m
+
       pub trim-accepted : trimOutcome rec ws c ≡ Accepted
-      unfolding trimOutcome
-      trim-accepted = sym (allowed t _ _ _ _ e n (allowed u _ _ _ _ k m refl))
+      trim-accepted = by-clock true held
 
-      pub trim-clock : c .0 ≤ largestMillis
-      trim-clock = leb-true (c .0) largestMillis (told u _ k m)
+      pub trim-clock : at .0 ≤ largestMillis
+      trim-clock = subst⁻¹ (λ (x : Millis). x .0 ≤ largestMillis) is (leb-true (c .0) largestMillis held)
+
+      -- what was done at the clock that was made was done at the one given
+      pub trim-made : (r : Record) → r ≡ trimmed rec ws (at .0) → r ≡ trimmed rec ws (c .0)
+      trim-made r f = f ∙ ap (λ (x : Millis). trimmed rec ws (x .0)) is
+
+      pub trim-left : (vs : List ℕ) → vs ≡ canonical (length ws) (leftAt rec ws (at .0)) → vs ≡ canonical (length ws) (leftAt rec ws (c .0))
+      trim-left vs f = f ∙ ap (λ (x : Millis). canonical (length ws) (leftAt rec ws (x .0))) is
 
 -- ---- the step
 

@@ -4,8 +4,8 @@ use Prim.Native.Nat.{ℕ, max}
 use mathlib.Core.Bool.{cond}
 use mathlib.Core.List.{List}
 use lib.ListN.{length}
-use Rattle.units.specs.declared.Millis.{Millis}
-use Rattle.units.specs.Limits.{millisHeld}
+use Rattle.units.specs.declared.WideMillis.{WideMillis}
+use Rattle.units.specs.Limits.{clockHeld}
 use Rattle.window.specs.declared.Reference.{Reference}
 use Rattle.runs.specs.Encoding.{canonical}
 use Rattle.agreement.specs.declared.Record.{Record}
@@ -32,14 +32,14 @@ clockRaised rec c =
 abbrev pub leftAt : Record → List ℕ → ℕ → List Reference
 leftAt rec ws c = unspent (rec .head) (max (rec .clock .0) c) (kept rec ws)
 
-unfoldable pub trimOutcome : Record → List ℕ → Millis → Outcome
-trimOutcome rec ws c = cond (agrees rec ws) (cond (millisHeld c) Accepted (Refused ClockLimit)) (Refused Disagreement)
+unfoldable pub trimOutcome : Record → List ℕ → WideMillis → Outcome
+trimOutcome rec ws c = cond (agrees rec ws) (cond (clockHeld c) Accepted (Refused ClockLimit)) (Refused Disagreement)
 
 abbrev pub trimmed : Record → List ℕ → ℕ → Record
 trimmed rec ws c = keeping (clockRaised rec c) (kept rec ws) (leftAt rec ws c)
 
-abbrev pub trimAnswer : Record → List ℕ → Millis → Changed
+abbrev pub trimAnswer : Record → List ℕ → WideMillis → Changed
 trimAnswer rec ws c = changedBy (trimOutcome rec ws c) (trimmed rec ws (c .0)) rec
 
-abbrev pub trimTable : Record → List ℕ → Millis → List ℕ
+abbrev pub trimTable : Record → List ℕ → WideMillis → List ℕ
 trimTable rec ws c = wordsBy (trimOutcome rec ws c) (canonical (length ws) (leftAt rec ws (c .0))) ws

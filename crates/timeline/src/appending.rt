@@ -10,6 +10,7 @@ use keeping::Changed;
 use keeping::append_joined;
 use keeping::refused;
 use units::Span;
+use units::SpanMade;
 use units::Stamp;
 use units::Standing;
 use units::WideTick;
@@ -26,14 +27,14 @@ fn append_standing(
     ensures { λ r. ⌜ r ≡ appendAnswer rec (now (table .entry)) standing duration count ⌝ }
     ensures { λ _. ⌜ now (table .exit) ≡ appendTable rec (now (table .entry)) standing duration count ⌝ }
 {
-    if duration == 0 {
+    let SpanMade::Made(span) = Span::new(duration as u64) else {
         return refused(Refusal::NothingGiven, rec);
-    }
+    };
     if count == 0 {
         return refused(Refusal::NothingGiven, rec);
     }
     match standing {
-        Standing::Joins => append_joined(rec, table, Span(duration as u64), count as u64),
+        Standing::Joins => append_joined(rec, table, span, count as u64),
         Standing::Gap => refused(Refusal::Gap, rec),
         Standing::Overlap => refused(Refusal::Overlap, rec),
     }

@@ -1,5 +1,7 @@
 // Opening a timeline over a lent table.
 ghost use mathlib.Core.Path.{_≡_};
+ghost use Rattle.units.specs.Limits.{tickOf};
+ghost use Rattle.window.specs.Limits.{headOf};
 ghost use Rattle.timeline.specs.Opening.{freshRecord, zeroRecord, openAnswer, openTable};
 use agreement::Record;
 use agreement::Refusal;
@@ -9,8 +11,12 @@ use keeping::refused;
 use units::Millis;
 use units::Number;
 use units::Tick;
+use units::TickMade;
 use units::Timescale;
+use units::WideTick;
 use window::Head;
+use window::HeadFields;
+use window::HeadMade;
 
 fn fresh(head: Head, first: Tick) -> Record
     ensures { λ r. ⌜ r ≡ freshRecord head first ⌝ }
@@ -40,16 +46,17 @@ pub fn zero_record() -> Record
     fresh(head, Tick(0))
 }
 
-pub fn open(head: Head, first: Tick, table: &mut [u64]) -> Changed
-    ensures { λ r. ⌜ r ≡ openAnswer head first ⌝ }
-    ensures { λ _. ⌜ now (table .exit) ≡ openTable head first (now (table .entry)) ⌝ }
+// Opens a timeline, for any head fields and any first tick.
+pub fn open(fields: HeadFields, first: WideTick, table: &mut [u64]) -> Changed
+    ensures { λ r. ⌜ r ≡ openAnswer (headOf fields) (tickOf first) ⌝ }
+    ensures { λ _. ⌜ now (table .exit) ≡ openTable (headOf fields) (tickOf first) (now (table .entry)) ⌝ }
 {
-    if !head.held() {
+    let HeadMade::Made(head) = Head::new(fields) else {
         return refused(Refusal::OverLimit, zero_record());
-    }
-    if !first.held() {
+    };
+    let TickMade::Made(next) = Tick::new(first.0) else {
         return refused(Refusal::OverLimit, zero_record());
-    }
+    };
     runs::table::clear(table);
-    accepted(fresh(head, first))
+    accepted(fresh(head, next))
 }

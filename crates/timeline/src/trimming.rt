@@ -14,6 +14,8 @@ use keeping::accepted;
 use keeping::gone_in;
 use keeping::refused;
 use units::Millis;
+use units::MillisMade;
+use units::WideMillis;
 
 fn greater(a: Millis, b: Millis) -> Millis
     ensures { λ r. ⌜ r ≡ record { 0 = max (a .0) (b .0) } ⌝ }
@@ -47,15 +49,16 @@ fn trim_agreeing(rec: Record, table: &mut [u64], clock: Millis) -> Record
     }
 }
 
-pub fn trim(rec: Record, table: &mut [u64], clock: Millis) -> Changed
+// Trims at a clock, for any record, any words and any clock.
+pub fn trim(rec: Record, table: &mut [u64], clock: WideMillis) -> Changed
     ensures { λ r. ⌜ r ≡ trimAnswer rec (now (table .entry)) clock ⌝ }
     ensures { λ _. ⌜ now (table .exit) ≡ trimTable rec (now (table .entry)) clock ⌝ }
 {
     if !rec.agrees(table) {
         return refused(Refusal::Disagreement, rec);
     }
-    if !clock.held() {
+    let MillisMade::Made(at) = Millis::new(clock.0) else {
         return refused(Refusal::ClockLimit, rec);
-    }
-    accepted(trim_agreeing(rec, table, clock))
+    };
+    accepted(trim_agreeing(rec, table, at))
 }

@@ -1,10 +1,10 @@
 // The units of a timeline, a type each, so that a tick is never taken for a millisecond or a grain.
-// A type holds any number of its width: what a caller hands over is judged by `held`, and each
-// constructor refuses what lies beyond the limits.
+// A number from outside becomes a unit by its constructor, which refuses what lies beyond the limits.
+// A type holds any number of its width: the words of a record or a table are judged by `held`.
 ghost use mathlib.Core.Path.{_≡_};
 ghost use Prim.Native.Nat.{_*_, _≤_};
 ghost use Rattle.units.specs.Product.{Product};
-ghost use Rattle.units.specs.Limits.{largestTick, largestMillis, largestTimescale};
+ghost use Rattle.units.specs.Limits.{largestTick, largestMillis, largestTimescale, largestSpan};
 ghost use Rattle.units.specs.Limits.{tickHeld, millisHeld, timescaleHeld, spanHeld, numberHeld};
 ghost use Rattle.units.specs.Limits.{tickMade, millisMade, timescaleMade, spanMade, numberMade, grainsBetween};
 
@@ -24,6 +24,9 @@ pub struct Stamp(pub u32);
 // Whole milliseconds: period start, duration, depth, clock.
 pub struct Millis(pub u64);
 
+// A clock of any 64 bits, as a caller gives it.
+pub struct WideMillis(pub u64);
+
 // Ticks a second.
 pub struct Timescale(pub u64);
 
@@ -32,6 +35,9 @@ pub struct Span(pub u64);
 
 // The number of a reference.
 pub struct Number(pub u64);
+
+// A number of any 64 bits, as a caller gives it.
+pub struct WideNumber(pub u64);
 
 // A point in grains, signed: a tick has 1000 of them, a millisecond has timescale.
 pub struct Grain(pub i64);
@@ -154,6 +160,14 @@ impl Span {
         self.0 <= Self::LARGEST
     }
 
+    // Inner, since callers show the limit: of any 64 bits the product may pass 64.
+    pub fn grains(self) -> Grains
+        requires { ⌜ self .0 ≤ largestSpan ⌝ }
+        ensures { λ r. ⌜ Product (r .0) (self .0) 1000 (largestSpan * 1000) ⌝ }
+    {
+        Grains(self.0 * 1000)
+    }
+
     pub fn new(ticks: u64) -> SpanMade
         ensures { λ r. ⌜ r ≡ spanMade ticks ⌝ }
     {
@@ -200,18 +214,18 @@ pub enum GrainMade {
 impl Grain {
     pub const LARGEST: u64 = 9_223_372_036_854_775_807;
 
-    // The grains from one point to another, both counted from one zero.
-    pub fn between(from: u64, to: u64) -> GrainMade
-        ensures { λ r. ⌜ r ≡ grainsBetween from to ⌝ }
+    // From one point to another, both counted from one zero.
+    pub fn between(from: Grains, to: Grains) -> GrainMade
+        ensures { λ r. ⌜ r ≡ grainsBetween (from .0) (to .0) ⌝ }
     {
-        if from <= to {
-            let ahead = to - from;
+        if from.0 <= to.0 {
+            let ahead = to.0 - from.0;
             if ahead <= Self::LARGEST {
                 return GrainMade::Made(Grain(ahead as i64));
             }
             return GrainMade::Refused;
         }
-        let behind = from - to;
+        let behind = from.0 - to.0;
         if behind <= Self::LARGEST {
             return GrainMade::Made(Grain(0 - (behind as i64)));
         }

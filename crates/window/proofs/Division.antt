@@ -1,6 +1,6 @@
 -- What the divisions of the code find is exactly what the definitions ask: the ends that are passed, the ticks that a
 -- window needs, the least count that reaches the period end.
-use mathlib.Core.Path.{_≡_, refl, sym, ap, ap₂, _∙_}
+use mathlib.Core.Path.{_≡_, refl, sym, ap, ap₂, subst⁻¹, _∙_}
 use mathlib.Core.Bool.{Bool, true, false, cond, _&&_, false≢true}
 use Prim.Native.Nat.{ℕ, _+_, _-_, _*_, _/_, _≤_, _<_, min, max}
 use native.Mathlib.Nat.{mul-assoc, mul-comm, add-mul, one-mul, mul-le-mul-right, div-mul-le-self, div-le-self, lt-div-mul-add, add-zero, le-of-lt}
@@ -180,8 +180,8 @@ module _ (h : Head) where
     reaches : (n : ℕ) → reachesEnd h (s + d * n) ≡ leb (e + o) (a + n * (d * 1000))
     reaches n = reaches-is (s + d * n) ∙ ap₂ leb (ap₂ _+_ (sym (pe .is)) (sym (po .is))) (taken n)
 
-    pub least-count : LeastCount h s d ((e + o - a - 1) / (d * 1000) + 1)
-    least-count =
+    by-ticks : LeastCount h s d ((e + o - a - 1) / (d * 1000) + 1)
+    by-ticks =
         let count : ℕ = (e + o - a - 1) / (d * 1000) + 1 in
         record {
           enough =
@@ -191,3 +191,7 @@ module _ (h : Head) where
               reaches n ∙
               lt-leb (e + o) (a + n * (d * 1000)) (omega (arith, some-left, up-least (e + o - a) (d * 1000) n (omega (arith, some-left)) l));
         }
+
+    -- by the grains of one reference
+    pub least-count : (g m₄ : ℕ) → Product g d 1000 m₄ → LeastCount h s d ((e + o - a - 1) / g + 1)
+    least-count g m₄ pg = subst⁻¹ (λ (x : ℕ). LeastCount h s d ((e + o - a - 1) / x + 1)) (pg .is) by-ticks

@@ -1,5 +1,6 @@
 -- Laws of the window that belong to no one function.
 pub mod Limits
+pub mod Making
 pub mod Ranges
 pub mod Unsigned
 pub mod Sides

@@ -11,26 +11,40 @@ pub tests-held : (h : Head) (t o s d p f : Bool) → t ≡ timescaleHeld (h .tim
     d ≡ millisHeld (h .duration) → p ≡ millisHeld (h .depth) → f ≡ numberHeld (h .first) → (t && o && s && d && p && f) ≡ headHeld h
 tests-held h t o s d p f et eo es ed ep ef = ap₂ _&&_ (ap₂ _&&_ (ap₂ _&&_ (ap₂ _&&_ (ap₂ _&&_ et eo) es) ed) ep) ef
 
+-- the tests of a head that is held, each by itself
+pub record EachHeld (h : Head) : Type 0 where
+  pub timescale : timescaleHeld (h .timescale) ≡ true
+  pub offset : tickHeld (h .offset) ≡ true
+  pub start : millisHeld (h .start) ≡ true
+  pub duration : millisHeld (h .duration) ≡ true
+  pub depth : millisHeld (h .depth) ≡ true
+  pub first : numberHeld (h .first) ≡ true
+
+pub each-held : (h : Head) → headHeld h ≡ true → EachHeld h
+each-held h e =
+    let a = and-eq-true-iff _ _ .0 e in
+    let b = and-eq-true-iff _ _ .0 (a .0) in
+    let c = and-eq-true-iff _ _ .0 (b .0) in
+    let d = and-eq-true-iff _ _ .0 (c .0) in
+    let t = and-eq-true-iff _ _ .0 (d .0) in
+    record { timescale = t .0; offset = t .1; start = d .1; duration = c .1; depth = b .1; first = a .1 }
+
 -- the test is right
 pub held-is : (h : Head) → Exactly (headHeld h) (Held h)
 held-is h = record { only = only; if = if }
   where
     only : headHeld h ≡ true → Held h
     only e =
-        let a = and-eq-true-iff _ _ .0 e in
-        let b = and-eq-true-iff _ _ .0 (a .0) in
-        let c = and-eq-true-iff _ _ .0 (b .0) in
-        let d = and-eq-true-iff _ _ .0 (c .0) in
-        let t = and-eq-true-iff _ _ .0 (d .0) in
-        let k = and-eq-true-iff _ _ .0 (t .0) in
+        let k = each-held h e in
+        let t = and-eq-true-iff _ _ .0 (k .timescale) in
         record {
-          some = leb-true 1 (h .timescale .0) (k .0);
-          timescale = leb-true (h .timescale .0) largestTimescale (k .1);
-          offset = leb-true (h .offset .0) largestTick (t .1);
-          start = leb-true (h .start .0) largestMillis (d .1);
-          duration = leb-true (h .duration .0) largestMillis (c .1);
-          depth = leb-true (h .depth .0) largestMillis (b .1);
-          first = leb-true (h .first .0) largestNumber (a .1);
+          some = leb-true 1 (h .timescale .0) (t .0);
+          timescale = leb-true (h .timescale .0) largestTimescale (t .1);
+          offset = leb-true (h .offset .0) largestTick (k .offset);
+          start = leb-true (h .start .0) largestMillis (k .start);
+          duration = leb-true (h .duration .0) largestMillis (k .duration);
+          depth = leb-true (h .depth .0) largestMillis (k .depth);
+          first = leb-true (h .first .0) largestNumber (k .first);
         }
 
     if : Held h → headHeld h ≡ true

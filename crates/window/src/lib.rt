@@ -1,11 +1,15 @@
 // The rules of time: where ticks and milliseconds stand, and what a clock needs of them.
 ghost use mathlib.Core.Path.{_≡_};
-ghost use Rattle.window.specs.Limits.{headHeld};
+ghost use Rattle.window.specs.Limits.{headHeld, fieldsOf, headMade};
 use units::Millis;
+use units::MillisMade;
 use units::Number;
+use units::NumberMade;
 use units::Span;
 use units::Tick;
+use units::TickMade;
 use units::Timescale;
+use units::TimescaleMade;
 use units::WideTick;
 
 mod edges;
@@ -19,6 +23,21 @@ pub struct Head {
     pub duration: Millis,
     pub depth: Millis,
     pub first: Number,
+}
+
+// The fields of a head as they come, each any number of 64 bits: `Head::new` makes a head of them.
+pub struct HeadFields {
+    pub timescale: u64,
+    pub offset: u64,
+    pub start: u64,
+    pub duration: u64,
+    pub depth: u64,
+    pub first: u64,
+}
+
+pub enum HeadMade {
+    Made(Head),
+    Refused,
 }
 
 // One media segment: where it starts, and for how many ticks it lasts.
@@ -51,5 +70,51 @@ impl Head {
         let depth = self.depth.held();
         let first = self.first.held();
         timescale & offset & start & duration & depth & first
+    }
+
+    // The head of some fields, where each is within the limit of its unit.
+    pub fn new(fields: HeadFields) -> HeadMade
+        ensures { λ r. ⌜ r ≡ headMade fields ⌝ }
+    {
+        let TimescaleMade::Made(timescale) = Timescale::new(fields.timescale) else {
+            return HeadMade::Refused;
+        };
+        let TickMade::Made(offset) = Tick::new(fields.offset) else {
+            return HeadMade::Refused;
+        };
+        let MillisMade::Made(start) = Millis::new(fields.start) else {
+            return HeadMade::Refused;
+        };
+        let MillisMade::Made(duration) = Millis::new(fields.duration) else {
+            return HeadMade::Refused;
+        };
+        let MillisMade::Made(depth) = Millis::new(fields.depth) else {
+            return HeadMade::Refused;
+        };
+        let NumberMade::Made(first) = Number::new(fields.first) else {
+            return HeadMade::Refused;
+        };
+        HeadMade::Made(Head {
+            timescale,
+            offset,
+            start,
+            duration,
+            depth,
+            first,
+        })
+    }
+
+    // Its fields, as a line of a file has them.
+    pub fn fields(self) -> HeadFields
+        ensures { λ r. ⌜ r ≡ fieldsOf self ⌝ }
+    {
+        HeadFields {
+            timescale: self.timescale.0,
+            offset: self.offset.0,
+            start: self.start.0,
+            duration: self.duration.0,
+            depth: self.depth.0,
+            first: self.first.0,
+        }
     }
 }

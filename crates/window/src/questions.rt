@@ -75,7 +75,7 @@ impl Head {
         let zero = self.offset.grains();
         let at = start.grains();
         let left = end.0 + zero.0 - at.0;
-        let each = span.0 * 1000;
-        (left - 1) / each + 1
+        let each = span.grains();
+        (left - 1) / each.0 + 1
     }
 }

@@ -6,10 +6,10 @@ use Rattle.answers.proofs.shares.hundredths.Statement.{statement}
 use Rattle.answers.proofs.shares.hundredths.Tie as tie
 
 abbrev Inv-loop : tie.InvT-loop
-Inv-loop covered needed short whole₀ left₀ i₀ whole left i = Parted covered needed whole left i
+Inv-loop needed covered short whole₀ left₀ i₀ whole left i = Parted needed covered whole left i
 
 abbrev μ-loop : tie.MeasureT-loop
-μ-loop covered needed short whole₀ left₀ i₀ whole left i = 100 - i
+μ-loop needed covered short whole₀ left₀ i₀ whole left i = 100 - i
 
 pub hundredths-spec : {M : Type 1} → statement M
 hundredths-spec =

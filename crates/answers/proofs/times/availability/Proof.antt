@@ -9,19 +9,19 @@ use Rattle.answers.proofs.Numbering.{is-within}
 use Rattle.answers.proofs.times.availability.Statement.{statement}
 use Rattle.answers.proofs.times.availability.Tie as tie
 
-kept-number-requires : tie.Need-kept-number-requires
-kept-number-requires c κs = told _ _ (c .before .agrees .ensures) (c .if1 .left)
+asked-number-requires : tie.Need-asked-number-requires
+asked-number-requires c κs = told _ _ (c .before .agrees .ensures) (c .if1 .left)
 
 found-availability-requires : tie.Need-found-availability-requires
 found-availability-requires c κs =
     let agreed = told _ _ (c .before .before .agrees .ensures) (c .before .if1 .left) in
-    (agree-head _ _ agreed, is-within _ _ _ _ (agreed-within _ _ agreed) (c .kept-number .ensures))
+    (agree-head _ _ agreed, is-within _ _ _ _ (agreed-within _ _ agreed) (c .asked-number .ensures))
 
 returns-2 : tie.Need-returns-2
 returns-2 c =
     let found = c .before in
     allowed _ _ _ _ _ (found .before .before .agrees .ensures) (found .before .if1 .left)
-    (c .found-availability .ensures ∙ ap (numberAvailability _) (found .kept-number .ensures))
+    (c .found-availability .ensures ∙ ap (numberAvailability _) (found .asked-number .ensures))
 
 pub availability-spec : {M : Type 1} → statement M
 availability-spec =
@@ -29,6 +29,6 @@ availability-spec =
     (tie.spec
     (λ c κs. search needs)
     (λ c. search (needs, refused))
-    kept-number-requires
+    asked-number-requires
     found-availability-requires
     returns-2)

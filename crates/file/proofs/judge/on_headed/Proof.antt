@@ -16,10 +16,11 @@ take-s-requires c κs =
     let accepted = c .before .before in
     let opened = accepted .before .before .before .before in
     let tick = opened .before .before in
-    let told = tick .before .before in
+    let fields = tick .before in
+    let told = fields .before .before in
     let start = told .before .before .before in
     let asks = headed-asks (start .args .reading) (start .args .table .now) (start .args .frame) _ (told .frame .given .1) (start .pre) in
-    first-asks (start .args .reading) (start .args .table .now) (told .frame .given .0 .0) asks _ (tick .first-tick .ensures) _ (opened .«open» .ensures .0) _ (opened .«open» .ensures .1)
+    first-asks (start .args .reading) (start .args .table .now) (told .frame .given .0 .0) asks _ (fields .fields .ensures) _ (tick .first-tick .ensures) _ (opened .«open» .ensures .0) _ (opened .«open» .ensures .1)
     (accepted .enum-told .given .1)
 
 returns-2 : tie.Need-returns-2
@@ -28,11 +29,12 @@ returns-2 c =
     let accepted = took .before .before .before in
     let opened = accepted .before .before .before .before in
     let tick = opened .before .before in
-    let told = tick .before .before in
+    let fields = tick .before in
+    let told = fields .before .before in
     let start = told .before .before .before in
     let asks = headed-asks (start .args .reading) (start .args .table .now) (start .args .frame) _ (told .frame .given .1) (start .pre) in
     headed-s (start .args .reading) _ (start .args .frame) _ (told .frame .given .1) _ _
-    (first-taken (start .args .reading) _ _ asks _ (tick .first-tick .ensures) _ (opened .«open» .ensures .0) _ (opened .«open» .ensures .1)
+    (first-taken (start .args .reading) _ _ asks _ (fields .fields .ensures) _ (tick .first-tick .ensures) _ (opened .«open» .ensures .0) _ (opened .«open» .ensures .1)
     (accepted .enum-told .given .1) _ _ (took .take-s .ensures))
 
 returns-3 : tie.Need-returns-3
@@ -40,11 +42,12 @@ returns-3 c =
     let refused = c .before .before in
     let opened = refused .before .before .before .before in
     let tick = opened .before .before in
-    let told = tick .before .before in
+    let fields = tick .before in
+    let told = fields .before .before in
     let start = told .before .before .before in
     let asks = headed-asks (start .args .reading) (start .args .table .now) (start .args .frame) _ (told .frame .given .1) (start .pre) in
     headed-s (start .args .reading) _ (start .args .frame) _ (told .frame .given .1) _ _
-    (first-refused (start .args .reading) _ _ asks _ (tick .first-tick .ensures) _ (opened .«open» .ensures .0) _ (opened .«open» .ensures .1)
+    (first-refused (start .args .reading) _ _ asks _ (fields .fields .ensures) _ (tick .first-tick .ensures) _ (opened .«open» .ensures .0) _ (opened .«open» .ensures .1)
     _ (refused .outcome .given .1) _ (c .refuse2 .ensures))
 
 pub on-headed-spec : {M : Type 1} → statement M
@@ -55,6 +58,7 @@ on-headed-spec =
     (λ c κs. search needs)
     (λ c κs. search needs)
     returns
+    (λ c κs. search needs)
     (λ c κs. search needs)
     (λ c κs. search needs)
     (λ c. search needs)

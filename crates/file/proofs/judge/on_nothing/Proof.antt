@@ -12,21 +12,22 @@ returns c =
 
 returns-2 : tie.Need-returns-2
 returns-2 c =
-    let asked = c .before .before in
-    let told = asked .before .before in
-    let start = told .before .before in
-    nothing-head (start .args .reading) (start .args .frame) _ (told .frame .given .1) _
-    (head-over (start .args .reading) _ _ (asked .held .ensures) (c .before .if1 .taken) _ (c .refuse2 .ensures))
+    let told = c .before in
+    let made = told .before .before in
+    let found = made .before .before in
+    let start = found .before .before in
+    nothing-head (start .args .reading) (start .args .frame) _ (found .frame .given .1) _
+    (head-over (start .args .reading) _ _ (made .new .ensures) (told .enum-told .given .1) _ (c .refuse2 .ensures))
 
 returns-3 : tie.Need-returns-3
 returns-3 c =
     let zero = c .before in
-    let else1 = zero .before in
-    let asked = else1 .before in
-    let told = asked .before .before in
-    let start = told .before .before in
-    nothing-head (start .args .reading) (start .args .frame) _ (told .frame .given .1) _
-    (head-taken (start .args .reading) _ _ (asked .held .ensures) (else1 .if1 .left) _ (zero .zero-record .ensures) _ (c .take .ensures))
+    let held = zero .before .before in
+    let made = held .before .before in
+    let found = made .before .before in
+    let start = found .before .before in
+    nothing-head (start .args .reading) (start .args .frame) _ (found .frame .given .1) _
+    (head-taken (start .args .reading) _ _ (made .new .ensures) _ (held .head .given .1) _ (zero .zero-record .ensures) _ (c .take .ensures))
 
 pub on-nothing-spec : {M : Type 1} → statement M
 on-nothing-spec =
@@ -37,6 +38,8 @@ on-nothing-spec =
     (λ c κs. search needs)
     returns
     (λ c κs. search needs)
+    (λ c. search needs)
+    (λ c. search needs)
     (λ c κs. search needs)
     returns-2
     (λ c κs. search needs)

@@ -6,19 +6,19 @@ use Rattle.file.proofs.writing.s_frame.Tie as tie
 
 sub-r : tie.Need-sub-r
 sub-r c =
-    let run = c .before .before in
+    let run = c .before in
     let start = run .before .before in
     s-counts (start .args .table .now) (start .args .i) _ (run .run-at .ensures) (start .pre .1)
 
 returns : tie.Need-returns
 returns c =
-    let run = c .before .before .before in
+    let run = c .before .before in
     let start = run .before .before in
     s-first (start .args .table .now) (start .args .i) _ (run .run-at .ensures) (c .if1 .taken)
 
 returns-2 : tie.Need-returns-2
 returns-2 c =
-    let run = c .before .before .before in
+    let run = c .before .before in
     let start = run .before .before in
     s-later (start .args .table .now) (start .args .i) _ (run .run-at .ensures) (c .if1 .left)
 

@@ -6,54 +6,61 @@ use Rattle.file.proofs.writing.write_all.Tie as tie
 
 kept-head-requires : tie.Need-kept-head-requires
 kept-head-requires c κs =
-    let start = c .before .before .before in
+    let start = c .before .before in
     all-number (start .args .rec) (start .args .table .now) (start .pre .0) (start .args .out .now) (start .pre .1)
 
 write-line-requires : tie.Need-write-line-requires
 write-line-requires c κs =
-    let start = c .before .before .before .before in
-    all-head (start .args .rec) (start .args .table .now) (start .pre .0) (start .args .out .now) (start .pre .1) _ (c .kept-head .ensures)
+    let first = c .before .before in
+    let start = first .before .before .before in
+    all-head (start .args .rec) (start .args .table .now) (start .pre .0) (start .args .out .now) (start .pre .1) _ (first .kept-head .ensures) _ (c .fields .ensures)
 
 sub-write-runs : tie.Need-sub-write-runs
 sub-write-runs c =
     let first = c .before .before in
-    let start = first .before .before .before .before .before in
-    all-start (start .args .rec) (start .args .table .now) (start .pre .0) (start .args .out .now) (start .pre .1) _ (first .before .kept-head .ensures) _ _ (first .write-line .ensures)
+    let kept = first .before .before .before in
+    let start = kept .before .before .before in
+    all-start (start .args .rec) (start .args .table .now) (start .pre .0) (start .args .out .now) (start .pre .1) _ (kept .kept-head .ensures) _ (first .before .fields .ensures) _ _ (first .write-line .ensures)
 
 write-runs-requires : tie.Need-write-runs-requires
 write-runs-requires c κs =
     let first = c .before .before .before in
-    let start = first .before .before .before .before .before in
-    all-runs (start .args .rec) (start .args .table .now) (start .pre .0) (start .args .out .now) (start .pre .1) _ (first .before .kept-head .ensures) _ _ (first .write-line .ensures)
+    let kept = first .before .before .before in
+    let start = kept .before .before .before in
+    all-runs (start .args .rec) (start .args .table .now) (start .pre .0) (start .args .out .now) (start .pre .1) _ (kept .kept-head .ensures) _ (first .before .fields .ensures) _ _ (first .write-line .ensures)
 
 add-at : tie.Need-add-at
 add-at c =
     let second = c .before .before in
     let first = second .before .before .before .before in
-    let start = first .before .before .before .before .before in
-    all-fits (start .args .rec) (start .args .table .now) (start .pre .0) (start .args .out .now) (start .pre .1) _ (first .before .kept-head .ensures) _ _ (first .write-line .ensures) _ _ (second .write-runs .ensures) (start .good .1 .1 .0 .0)
+    let kept = first .before .before .before in
+    let start = kept .before .before .before in
+    all-fits (start .args .rec) (start .args .table .now) (start .pre .0) (start .args .out .now) (start .pre .1) _ (kept .kept-head .ensures) _ (first .before .fields .ensures) _ _ (first .write-line .ensures) _ _ (second .write-runs .ensures) (start .good .1 .1 .0 .0)
 
 sub-write-line : tie.Need-sub-write-line
 sub-write-line c =
     let second = c .before .before in
     let first = second .before .before .before .before in
-    let start = first .before .before .before .before .before in
-    all-place (start .args .rec) (start .args .table .now) (start .pre .0) (start .args .out .now) (start .pre .1) _ (first .before .kept-head .ensures) _ _ (first .write-line .ensures) _ _ (second .write-runs .ensures)
+    let kept = first .before .before .before in
+    let start = kept .before .before .before in
+    all-place (start .args .rec) (start .args .table .now) (start .pre .0) (start .args .out .now) (start .pre .1) _ (kept .kept-head .ensures) _ (first .before .fields .ensures) _ _ (first .write-line .ensures) _ _ (second .write-runs .ensures)
 
 write-line-requires-2 : tie.Need-write-line-requires-2
 write-line-requires-2 c κs =
     let second = c .before .before .before in
     let first = second .before .before .before .before in
-    let start = first .before .before .before .before .before in
-    all-end (start .args .rec) (start .args .table .now) (start .pre .0) (start .args .out .now) (start .pre .1) _ (first .before .kept-head .ensures) _ _ (first .write-line .ensures) _ _ (second .write-runs .ensures)
+    let kept = first .before .before .before in
+    let start = kept .before .before .before in
+    all-end (start .args .rec) (start .args .table .now) (start .pre .0) (start .args .out .now) (start .pre .1) _ (kept .kept-head .ensures) _ (first .before .fields .ensures) _ _ (first .write-line .ensures) _ _ (second .write-runs .ensures)
 
 add-result : tie.Need-add-result
 add-result c =
     let third = c .before .before in
     let second = third .before .before .before .before in
     let first = second .before .before .before .before in
-    let start = first .before .before .before .before .before in
-    all-result (start .args .rec) (start .args .table .now) (start .pre .0) (start .args .out .now) (start .pre .1) _ (first .before .kept-head .ensures) _ _ (first .write-line .ensures) _ _ (second .write-runs .ensures) _ _ (third .write-line2 .ensures)
+    let kept = first .before .before .before in
+    let start = kept .before .before .before in
+    all-result (start .args .rec) (start .args .table .now) (start .pre .0) (start .args .out .now) (start .pre .1) _ (kept .kept-head .ensures) _ (first .before .fields .ensures) _ _ (first .write-line .ensures) _ _ (second .write-runs .ensures) _ _ (third .write-line2 .ensures)
     (start .good .1 .1 .0 .0)
 
 returns : tie.Need-returns
@@ -61,9 +68,10 @@ returns c =
     let third = c .before .before in
     let second = third .before .before .before .before in
     let first = second .before .before .before .before in
-    let start = first .before .before .before .before .before in (
-      all-long (start .args .rec) (start .args .table .now) (start .pre .0) (start .args .out .now) (start .pre .1) _ (first .before .kept-head .ensures) _ _ (first .write-line .ensures) _ _ (second .write-runs .ensures) _ _ (third .write-line2 .ensures),
-      all-bytes (start .args .rec) (start .args .table .now) (start .pre .0) (start .args .out .now) (start .pre .1) _ (first .before .kept-head .ensures) _ _ (first .write-line .ensures) _ _ (second .write-runs .ensures) _ _ (third .write-line2 .ensures),
+    let kept = first .before .before .before in
+    let start = kept .before .before .before in (
+      all-long (start .args .rec) (start .args .table .now) (start .pre .0) (start .args .out .now) (start .pre .1) _ (kept .kept-head .ensures) _ (first .before .fields .ensures) _ _ (first .write-line .ensures) _ _ (second .write-runs .ensures) _ _ (third .write-line2 .ensures),
+      all-bytes (start .args .rec) (start .args .table .now) (start .pre .0) (start .args .out .now) (start .pre .1) _ (kept .kept-head .ensures) _ (first .before .fields .ensures) _ _ (first .write-line .ensures) _ _ (second .write-runs .ensures) _ _ (third .write-line2 .ensures),
     )
 
 pub write-all-spec : {M : Type 1} → statement M
@@ -71,6 +79,7 @@ write-all-spec =
     tie.close
     (tie.spec
     kept-head-requires
+    (λ c κs. search needs)
     write-line-requires
     sub-write-runs
     sub-write-runs

@@ -1,7 +1,9 @@
 -- `flonterri_open` meets its contract: refused for the record's length, or the opening's own answer.
 use borrow.Author.Needs.{needs}
+use mathlib.Core.Path.{refl}
 use Rattle.units.specs.declared.Tick.{Tick}
 use Rattle.timeline.specs.Opening.{openAnswer, openTable}
+use Rattle.flonterri.specs.Words.{headWith}
 use Rattle.flonterri.specs.Face.{opens}
 use Rattle.flonterri.proofs.Lengths.{is-record}
 use Rattle.flonterri.proofs.Facing.{changes-nothing, changes-by}
@@ -19,13 +21,12 @@ unfolding opens
 returns-2 c =
     let gave = c .before .before in
     let call = gave .before .before .before .before in
-    let made = call .before .before in
-    let test = made .before in
+    let test = call .before .before in
     let start = test .before .before .before .before in
     let a = start .args in
     let tick : Tick = record { 0 = a .first-tick } in
     let ts = a .table .now in
-    changes-by (a .«record» .now) ts _ (test .before .wrong-record .ensures) (λ head. openAnswer head tick) (λ head. openTable head tick ts) (test .if1 .left) _ _ (made .head-with .ensures) _ _
+    changes-by (a .«record» .now) ts _ (test .before .wrong-record .ensures) (λ head. openAnswer head tick) (λ head. openTable head tick ts) (test .if1 .left) _ (headWith (a .timescale) (a .offset) (a .start) (a .duration) (a .depth) (a .first-number)) refl _ _
     (call .open .ensures .0) (call .open .ensures .1) _ _ (gave .give-back .ensures .0) (gave .give-back .ensures .1)
 
 pub flonterri-open-spec : {M : Type 1} → statement M
@@ -34,7 +35,6 @@ flonterri-open-spec =
     (tie.spec
     (λ c κs. search needs)
     returns
-    (λ c κs. search needs)
     (λ c κs. search needs)
     (λ c κs. search (needs, is-record))
     (λ c. search needs)

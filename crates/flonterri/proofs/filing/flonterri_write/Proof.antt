@@ -2,6 +2,7 @@
 use borrow.Author.Needs.{needs}
 use lib.ListN.{length}
 use Rattle.file.specs.Writing.{writeAnswer, outputBy, fileFor}
+use Rattle.flonterri.specs.Tells.{writeTells}
 use Rattle.flonterri.specs.Face.{writes}
 use Rattle.flonterri.proofs.Lengths.{first-right, second-right}
 use Rattle.flonterri.proofs.Facing.{writes-nothing, writes-by}
@@ -15,7 +16,7 @@ returns c =
     writes-nothing (a .«record» .now) (a .bytes .now) (a .out .now) _ (c .before .wrong-length .ensures) _ _ (c .if1 .taken)
 
 returns-2 : tie.Need-returns-2
-unfolding writes
+unfolding writes writeTells
 returns-2 c =
     let told = c .before .before in
     let call = told .before .before .before .before in

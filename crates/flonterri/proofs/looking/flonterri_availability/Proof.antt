@@ -15,7 +15,7 @@ returns c =
     tells-nothing (start .args .«record» .now) 3 (start .args .out .now) _ (c .before .wrong-length .ensures) availabilityTells _ (c .if1 .taken)
 
 returns-2 : tie.Need-returns-2
-unfolding tellsAvailability
+unfolding tellsAvailability availabilityTells
 returns-2 c =
     let told = c .before in
     let call = told .before .before in

@@ -15,7 +15,7 @@ returns c =
     tells-nothing (start .args .«record» .now) 2 (start .args .out .now) _ (c .before .wrong-length .ensures) touchingTells _ (c .if1 .taken)
 
 returns-2 : tie.Need-returns-2
-unfolding tellsTouching
+unfolding tellsTouching touchingTells
 returns-2 c =
     let told = c .before .before in
     let call = told .before .before in

@@ -13,5 +13,7 @@ asked-on-spec =
     (λ c. search (needs, asks-nothing))
     (λ c. search (needs, asks-whole))
     (λ c κs. search needs)
+    (λ c. search needs)
+    (λ c. search needs)
     (λ c. search (needs, asks-over))
     (λ c. search (needs, asks-at)))

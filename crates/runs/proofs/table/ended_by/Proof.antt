@@ -11,7 +11,7 @@ use Rattle.runs.proofs.table.ended_by.Tie as tie
 
 abbrev Inv-loop : tie.InvT-loop
 Inv-loop table used t ended₀ whole₀ ended whole =
-    (whole ≤ used) × (ended + endedBy t (referencesOf (drop whole (runsOf used table))) ≡ endedBy t (keptIn used table))
+    (whole ≤ used) × (ended + endedBy (t .0) (referencesOf (drop whole (runsOf used table))) ≡ endedBy (t .0) (keptIn used table))
 
 abbrev μ-loop : tie.MeasureT-loop
 μ-loop table used t ended₀ whole₀ ended whole = used - whole

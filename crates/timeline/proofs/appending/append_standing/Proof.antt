@@ -2,8 +2,8 @@
 use borrow.Author.Needs.{needs}
 use native.Mathlib.Nat.{pos-of-ne-zero}
 use Rattle.agreement.specs.declared.refusal.Refusal.the-variants.{NothingGiven, Gap, Overlap}
-use Rattle.keeping.proofs.Outcomes.{answer-refused, words-refused, answer-as, words-as}
-use Rattle.timeline.proofs.Judged.{no-duration, no-count, stands-gap, stands-overlap, stands-joins, duration-held}
+use Rattle.keeping.proofs.Outcomes.{answer-refused, words-refused}
+use Rattle.timeline.proofs.Judged.{no-span, span-held, span-none, span-gap, span-overlap, span-answer, span-words}
 use Rattle.timeline.proofs.appending.append_standing.Statement.{statement}
 use Rattle.timeline.proofs.appending.append_standing.Tie as tie
 
@@ -12,16 +12,19 @@ append-standing-spec =
     tie.close
     (tie.spec
     (λ c κs. search needs)
-    (λ c. (search (needs, answer-refused, no-duration), words-refused _ _ _ NothingGiven (search (needs, no-duration))))
-    (λ c κs. search needs)
-    (λ c. (search (needs, answer-refused, no-count), words-refused _ _ _ NothingGiven (search (needs, no-count))))
     (λ c. search needs)
-    (λ c κs. search (needs, duration-held, pos-of-ne-zero))
     (λ c. search needs)
     (λ c κs. search needs)
+    (λ c. (search (needs, answer-refused, no-span), words-refused _ _ _ NothingGiven (search (needs, no-span))))
+    (λ c κs. search needs)
+    (λ c. (search (needs, answer-refused, span-none), words-refused _ _ _ NothingGiven (search (needs, span-none))))
+    (λ c. search needs)
+    (λ c κs. search (needs, span-held, pos-of-ne-zero))
     (λ c. search needs)
     (λ c κs. search needs)
     (λ c. search needs)
-    (λ c. (search (needs, answer-as, stands-joins), search (needs, words-as, stands-joins)))
-    (λ c. (search (needs, answer-refused, stands-gap), words-refused _ _ _ Gap (search (needs, stands-gap))))
-    (λ c. (search (needs, answer-refused, stands-overlap), words-refused _ _ _ Overlap (search (needs, stands-overlap)))))
+    (λ c κs. search needs)
+    (λ c. search needs)
+    (λ c. (search (needs, span-answer), search (needs, span-words)))
+    (λ c. (search (needs, answer-refused, span-gap), words-refused _ _ _ Gap (search (needs, span-gap))))
+    (λ c. (search (needs, answer-refused, span-overlap), words-refused _ _ _ Overlap (search (needs, span-overlap)))))

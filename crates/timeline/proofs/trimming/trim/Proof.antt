@@ -3,7 +3,7 @@ use borrow.Author.Needs.{needs}
 use Rattle.units.proofs.Guards.{told}
 use Rattle.agreement.specs.declared.refusal.Refusal.the-variants.{Disagreement, ClockLimit}
 use Rattle.keeping.proofs.Outcomes.{answer-refused, answer-accepted, words-refused, words-accepted}
-use Rattle.timeline.proofs.Trims.{trim-disagrees, trim-over, trim-accepted, trim-clock}
+use Rattle.timeline.proofs.Trims.{trim-disagrees, trim-over, trim-accepted, trim-clock, trim-made, trim-left}
 use Rattle.timeline.proofs.trimming.trim.Statement.{statement}
 use Rattle.timeline.proofs.trimming.trim.Tie as tie
 
@@ -16,10 +16,12 @@ trim-spec =
     (λ c. search needs)
     (λ c. (search (needs, answer-refused, trim-disagrees), words-refused _ _ _ Disagreement (search (needs, trim-disagrees))))
     (λ c κs. search needs)
+    (λ c. search needs)
+    (λ c. search needs)
     (λ c κs. search needs)
     (λ c. search needs)
     (λ c. (search (needs, answer-refused, trim-over), words-refused _ _ _ ClockLimit (search (needs, trim-over))))
     (λ c κs. search (needs, told, trim-clock))
     (λ c κs. search needs)
     (λ c. search needs)
-    (λ c. search (needs, answer-accepted, words-accepted, trim-accepted)))
+    (λ c. (search (needs, answer-accepted, trim-accepted, trim-made), search (needs, words-accepted, trim-accepted, trim-left))))
