@@ -8,9 +8,9 @@ use borrow.Author.Tests.{eqb-false, leb-true}
 use lib.Dec.{eqb}
 use lib.IntN.{ℤ}
 use lib.ListN.{length}
-use Rattle.units.specs.declared.Millis.{Millis}
+use Rattle.units.specs.declared.WideMillis.{WideMillis}
 use Rattle.units.specs.declared.standing.Standing.{Standing}
-use Rattle.units.specs.Limits.{largestSpan, largestMillis, largestNumber, millisHeld}
+use Rattle.units.specs.Limits.{largestSpan, largestMillis, largestNumber, clockHeld}
 use Rattle.units.specs.Standing.{tickStanding, stampStanding}
 use Rattle.runs.specs.Words.{runsOf}
 use Rattle.agreement.specs.declared.Record.{Record}
@@ -106,11 +106,11 @@ unfolding appendsStamp
 stamp-agreed ws ts stamp d n small = appends-agreed ws ts (stampStanding (record { 0 = stamp }) (recordOf ws .next)) d n small
 
 -- what an accepted trim has passed: 2 and 10
-trim-passed : (rec : Record) (ws : List ℕ) (c : Millis) → trimOutcome rec ws c ≡ outcome.Accepted → (agrees rec ws ≡ true) × (c .0 ≤ largestMillis)
+trim-passed : (rec : Record) (ws : List ℕ) (c : WideMillis) → trimOutcome rec ws c ≡ outcome.Accepted → (agrees rec ws ≡ true) × (c .0 ≤ largestMillis)
 unfolding trimOutcome
-trim-passed rec ws c o = go (agrees rec ws) (millisHeld c) refl o
+trim-passed rec ws c o = go (agrees rec ws) (clockHeld c) refl o
   where
-    go : (s t : Bool) → millisHeld c ≡ t → cond s (cond t outcome.Accepted (outcome.Refused refusal.ClockLimit)) (outcome.Refused refusal.Disagreement) ≡ outcome.Accepted → (s ≡ true) × (c .0 ≤ largestMillis)
+    go : (s t : Bool) → clockHeld c ≡ t → cond s (cond t outcome.Accepted (outcome.Refused refusal.ClockLimit)) (outcome.Refused refusal.Disagreement) ≡ outcome.Accepted → (s ≡ true) × (c .0 ≤ largestMillis)
     go true true e o = (refl, leb-true (c .0) largestMillis e)
     go true false e o = absurd (refusal-some refusal.ClockLimit (ap outcomeNumber o))
     go false t e o = absurd (refusal-some refusal.Disagreement (ap outcomeNumber o))
