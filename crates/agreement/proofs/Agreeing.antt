@@ -10,12 +10,12 @@ use Rattle.window.specs.declared.Reference.{Reference}
 use Rattle.window.specs.Limits.{Held}
 use Rattle.window.specs.Place.{beforeEnd}
 use Rattle.window.specs.Window.{endOf, passed}
-use Rattle.window.specs.References.{Joined, Each}
+use Rattle.window.specs.References.{EndToStart, Each}
 use Rattle.runs.specs.declared.Run.{Run}
 use Rattle.runs.specs.Words.{runsOf, referencesOf}
 use Rattle.runs.specs.Shape.{runsShaped, zeros, shaped}
-use Rattle.runs.specs.Joining.{lastEnd, Within}
-use Rattle.runs.proofs.Joins.{references-join, references-within}
+use Rattle.runs.specs.Ends.{lastEnd, Within}
+use Rattle.runs.proofs.EndToStart.{references-join, references-within}
 use Rattle.agreement.specs.declared.Record.{Record}
 use Rattle.agreement.specs.declared.Found.{Found}
 use Rattle.agreement.specs.declared.Found.the-variants.{Unshaped}
@@ -45,7 +45,7 @@ pub is-sized : (x : Found) (rs : List Run) → x ≡ found rs → Sized x
 is-sized x rs e = subst⁻¹ Sized e (found-sized rs)
 
 -- references of shaped runs join, from wherever the first starts
-some-join : (rs : List Run) → runsShaped rs ≡ true → (t : ℕ) × Joined t (referencesOf rs)
+some-join : (rs : List Run) → runsShaped rs ≡ true → (t : ℕ) × EndToStart t (referencesOf rs)
 some-join [] u = (0, references-join 0 [] u tt)
 some-join (x ∷ xs) u = (x .start .0, references-join (x .start .0) (x ∷ xs) u refl)
 

@@ -16,12 +16,12 @@ use Rattle.window.specs.declared.Passed.the-variants.{Upto}
 use Rattle.window.specs.Limits.{headHeld, Held}
 use Rattle.window.specs.Place.{beforeEnd}
 use Rattle.window.specs.Window.{endOf, passed}
-use Rattle.window.specs.Ticks.{reached, EndsPassed}
-use Rattle.window.specs.References.{Joined}
+use Rattle.window.specs.Ticks.{isPassed, EndsPassed}
+use Rattle.window.specs.References.{EndToStart}
 use Rattle.window.proofs.Limits.{held-is}
 use Rattle.window.proofs.Unsigned.{before-earlier}
 use Rattle.window.proofs.Spending.{coming-later}
-use Rattle.runs.specs.Joining.{lastEnd, Within}
+use Rattle.runs.specs.Ends.{lastEnd, Within}
 use Rattle.agreement.specs.declared.Record.{Record}
 use Rattle.agreement.specs.declared.Found.{Found}
 use Rattle.agreement.specs.declared.Found.the-variants.{Nothing, Kept}
@@ -76,8 +76,8 @@ module _ (first accepted : ℕ) where
       go true e = let m : first ≤ largestNumber - accepted = leb-true first (largestNumber - accepted) e in sym (le-leb (first + accepted) largestNumber (omega arith))
       go false e = let m : largestNumber - accepted < first = leb-false first (largestNumber - accepted) e in sym (lt-leb (first + accepted) largestNumber (omega arith))
 
-pub upto-reached : (p : Passed) (t : ℕ) (end : ℕ) → p ≡ Upto (record { 0 = t }) → leb end t ≡ reached p end
-upto-reached p t end e = sym (ap (λ q. reached q end) e)
+pub upto-passed : (p : Passed) (t : ℕ) (end : ℕ) → p ≡ Upto (record { 0 = t }) → leb end t ≡ isPassed p end
+upto-passed p t end e = sym (ap (λ q. isPassed q end) e)
 
 pub tests-held : (rec : Record) (h n c d k : Bool) → h ≡ headHeld (rec .head) → n ≡ tickHeld (rec .next) → c ≡ millisHeld (rec .clock) →
     d ≡ leb (rec .dropped) (rec .accepted) → k ≡ countsHeld (rec .head .first .0) (rec .accepted) → (h && n && c && d && k) ≡ recordHeld rec
@@ -95,14 +95,14 @@ module _ (h : Head) (c : ℕ) where
   coming r = not (passed h (endOf r) c)
 
   -- after one that is not spent, none is
-  pub none-passed : (t : ℕ) (rs : List Reference) → Joined t rs → passed h t c ≡ false → every coming rs ≡ true
+  pub none-passed : (t : ℕ) (rs : List Reference) → EndToStart t rs → passed h t c ≡ false → every coming rs ≡ true
   unfolding every coming
   none-passed t [] j p = refl
   none-passed t (r ∷ rs) j p =
       let q : passed h (endOf r) c ≡ false = coming-later h t (endOf r) c (omega (arith, j .0)) p in
       ap₂ _&&_ (ap not q) (none-passed (endOf r) rs (j .1) q)
 
-  all-coming : (t : ℕ) (r : Reference) (rs : List Reference) → Joined t (r ∷ rs) → every coming (r ∷ rs) ≡ coming r
+  all-coming : (t : ℕ) (r : Reference) (rs : List Reference) → EndToStart t (r ∷ rs) → every coming (r ∷ rs) ≡ coming r
   unfolding every coming
   all-coming t r rs j = go (passed h (endOf r) c) refl
     where
@@ -114,14 +114,14 @@ module _ (h : Head) (c : ℕ) where
   begun r = beforeEnd h (r .start .0)
 
   -- if the last starts before the period end, all do
-  starts-grow : (t : ℕ) (r : Reference) (rs : List Reference) → Joined t (r ∷ rs) → r .start .0 ≤ lastOf r rs .start .0
+  starts-grow : (t : ℕ) (r : Reference) (rs : List Reference) → EndToStart t (r ∷ rs) → r .start .0 ≤ lastOf r rs .start .0
   unfolding lastOf
   starts-grow t r [] j = le-refl (r .start .0)
   starts-grow t r (x ∷ xs) j =
       let l : x .start .0 ≤ lastOf x xs .start .0 = starts-grow (endOf r) x xs (j .1) in
       omega (arith, j .1 .0)
 
-  pub all-begun : (t : ℕ) (r : Reference) (rs : List Reference) → Joined t (r ∷ rs) → every begun (r ∷ rs) ≡ begun (lastOf r rs)
+  pub all-begun : (t : ℕ) (r : Reference) (rs : List Reference) → EndToStart t (r ∷ rs) → every begun (r ∷ rs) ≡ begun (lastOf r rs)
   unfolding every begun lastOf
   all-begun t r [] j = and-true (beforeEnd h (r .start .0))
   all-begun t r (x ∷ xs) j = ap (λ b. beforeEnd h (r .start .0) && b) (all-begun (endOf r) x xs (j .1)) ∙ go (beforeEnd h (lastOf x xs .start .0)) refl
@@ -130,7 +130,7 @@ module _ (h : Head) (c : ℕ) where
       go true e = ap (λ s. s && true) (before-earlier h (r .start .0) (lastOf x xs .start .0) (omega (arith, starts-grow (endOf r) x xs (j .1), j .1 .0)) e)
       go false e = and-false (beforeEnd h (r .start .0))
 
-pub right-is : (rec : Record) (t : ℕ) (rs : List Reference) → Joined t rs → foundRight rec (summary rs) ≡ keptRight rec rs
+pub right-is : (rec : Record) (t : ℕ) (rs : List Reference) → EndToStart t rs → foundRight rec (summary rs) ≡ keptRight rec rs
 unfolding every lastEnd coming begun
 right-is rec t [] j =
     sym
@@ -163,7 +163,7 @@ module _ (rec : Record) (f l : Reference) (n : ℕ) where
     pub keeps-end : (endOf l ≡ rec .next .0 → ⊥) → false ≡ foundRight rec (Kept f l n)
     keeps-end k = sym (four counted (ne-eqb (endOf l) (rec .next .0) k) refl refl)
 
-    module _ (k : endOf l ≡ rec .next .0) (p : Passed) (w : EndsPassed (rec .head) (rec .clock .0) p) (t : Bool) (s : t ≡ reached p (endOf f)) where
+    module _ (k : endOf l ≡ rec .next .0) (p : Passed) (w : EndsPassed (rec .head) (rec .clock .0) p) (t : Bool) (s : t ≡ isPassed p (endOf f)) where
       spent-is : passed (rec .head) (endOf f) (rec .clock .0) ≡ t
       spent-is = w (endOf f) ∙ sym s
 

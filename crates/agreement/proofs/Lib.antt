@@ -4,3 +4,4 @@ pub mod Zeros
 pub mod Scanning
 pub mod Judging
 pub mod Agreeing
+pub mod Numbers

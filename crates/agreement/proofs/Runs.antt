@@ -11,10 +11,9 @@ use mir.Val.{Fits}
 use Rattle.units.specs.Limits.{largestTick, spanHeld}
 use Rattle.runs.specs.declared.Run.{Run}
 use Rattle.runs.specs.Words.{runEnd}
-use Rattle.runs.specs.Shape.{runHeld}
+use Rattle.runs.specs.Shape.{runHeld, follows}
 use Rattle.runs.proofs.Encoded.{span-limits, run-facts}
 use Rattle.runs.proofs.Moving.{part-fits, start-fits}
-use Rattle.agreement.specs.Finding.{joins}
 
 -- an end within a limit, by a division that cannot wrap
 pub ends-by : (s d n most : ℕ) → 1 ≤ d → s ≤ most → leb n ((most - s) / d) ≡ leb (s + d * n) most
@@ -72,8 +71,8 @@ module _ (r : Run) where
 -- ---- two runs
 
 module _ (r x : Run) (e : ℕ) (is : e ≡ runEnd r) where
-  pub apart : (e ≡ x .start .0 → ⊥) → false ≡ joins r x
+  pub apart : (e ≡ x .start .0 → ⊥) → false ≡ follows r x
   apart n = sym (ap (λ t. t && not (eqb (r .span .0) (x .span .0))) (ne-eqb (runEnd r) (x .start .0) (λ p. n (is ∙ p))))
 
-  pub joined-by : e ≡ x .start .0 → not (eqb (r .span .0) (x .span .0)) ≡ joins r x
+  pub joined-by : e ≡ x .start .0 → not (eqb (r .span .0) (x .span .0)) ≡ follows r x
   joined-by p = sym (ap (λ t. t && not (eqb (r .span .0) (x .span .0))) (eq-eqb (runEnd r) (x .start .0) (sym is ∙ p)))

@@ -12,13 +12,13 @@ use mir.Syntax.{w64}
 use mir.Val.{Fits}
 use Rattle.window.specs.declared.Reference.{Reference}
 use Rattle.runs.specs.declared.Run.{Run}
-use Rattle.runs.specs.Words.{runAt, runsOf, runEnd, repeated, referencesOf}
-use Rattle.runs.specs.Shape.{runHeld, follows, runsShaped}
-use Rattle.runs.proofs.Opening.{run-opens, repeated-length, references-length, total}
+use Rattle.runs.specs.Words.{runAt, runsOf, runEnd, repeated, referencesOf, totalCount}
+use Rattle.runs.specs.Shape.{runHeld, follows, followedBy, runsShaped}
+use Rattle.runs.proofs.Opening.{run-opens, repeated-length, references-length}
 use Rattle.runs.proofs.Encoded.{run-facts, leads, ref}
 use Rattle.agreement.specs.declared.Found.{Found}
 use Rattle.agreement.specs.declared.Found.the-variants.{Unshaped, Nothing, Kept}
-use Rattle.agreement.specs.Finding.{firstIn, lastIn, joins, lastOf, summary, found}
+use Rattle.agreement.specs.Finding.{firstIn, lastIn, lastOf, summary, found}
 
 -- ---- the last reference
 
@@ -54,7 +54,7 @@ references-last r (x ∷ xs) l t =
     last-append (firstIn r) (firstIn x) (repeated (r .start .0 + r .span .0) (r .span .0) (r .count - 1)) (repeated (x .start .0 + x .span .0) (x .span .0) (x .count - 1) ++ referencesOf xs) ∙
     references-last x xs (f .some) (f .rest)
 
-summarized : (r : Run) (rs : List Run) → 1 ≤ r .count → runsShaped rs ≡ true → summary (referencesOf (r ∷ rs)) ≡ Kept (firstIn r) (lastIn (lastRun r rs)) (r .count + total rs)
+summarized : (r : Run) (rs : List Run) → 1 ≤ r .count → runsShaped rs ≡ true → summary (referencesOf (r ∷ rs)) ≡ Kept (firstIn r) (lastIn (lastRun r rs)) (r .count + totalCount rs)
 unfolding referencesOf
 summarized r rs l t =
     ap (λ ys. summary (ys ++ referencesOf rs)) (opened r l) ∙
@@ -71,29 +71,29 @@ summarized r rs l t =
 -- what the pass will answer from a run on: the first run, the last one seen, and how many references were counted
 pub after : Run → Run → ℕ → List Run → Found
 after f l n [] = Kept (firstIn f) (lastIn l) n
-after f l n (x ∷ xs) = cond (joins l x) (cond (runHeld x) (after f x (n + x .count) xs) Unshaped) Unshaped
+after f l n (x ∷ xs) = cond (follows l x) (cond (runHeld x) (after f x (n + x .count) xs) Unshaped) Unshaped
 
 after-is : (f l : Run) (n : ℕ) (rs : List Run) →
-    after f l n rs ≡ cond (follows l rs && runsShaped rs) (Kept (firstIn f) (lastIn (lastRun l rs)) (n + total rs)) Unshaped
-unfolding after runsShaped lastRun total
+    after f l n rs ≡ cond (followedBy l rs && runsShaped rs) (Kept (firstIn f) (lastIn (lastRun l rs)) (n + totalCount rs)) Unshaped
+unfolding after runsShaped lastRun totalCount
 after-is f l n [] = ap (Kept (firstIn f) (lastIn l)) (omega arith)
-after-is f l n (x ∷ xs) = go (joins l x) (runHeld x) (after-is f x (n + x .count) xs)
+after-is f l n (x ∷ xs) = go (follows l x) (runHeld x) (after-is f x (n + x .count) xs)
   where
-    go : (j k : Bool) → after f x (n + x .count) xs ≡ cond (follows x xs && runsShaped xs) (Kept (firstIn f) (lastIn (lastRun x xs)) (n + x .count + total xs)) Unshaped →
+    go : (j k : Bool) → after f x (n + x .count) xs ≡ cond (followedBy x xs && runsShaped xs) (Kept (firstIn f) (lastIn (lastRun x xs)) (n + x .count + totalCount xs)) Unshaped →
         cond j (cond k (after f x (n + x .count) xs) Unshaped) Unshaped ≡
-        cond (j && (k && follows x xs && runsShaped xs)) (Kept (firstIn f) (lastIn (lastRun x xs)) (n + (x .count + total xs))) Unshaped
-    go true true h = h ∙ ap (λ (m : ℕ). cond (follows x xs && runsShaped xs) (Kept (firstIn f) (lastIn (lastRun x xs)) m) Unshaped) (add-assoc n (x .count) (total xs))
+        cond (j && (k && followedBy x xs && runsShaped xs)) (Kept (firstIn f) (lastIn (lastRun x xs)) (n + (x .count + totalCount xs))) Unshaped
+    go true true h = h ∙ ap (λ (m : ℕ). cond (followedBy x xs && runsShaped xs) (Kept (firstIn f) (lastIn (lastRun x xs)) m) Unshaped) (add-assoc n (x .count) (totalCount xs))
     go true false h = refl
     go false k h = refl
 
 found-is : (f : Run) (rs : List Run) → found (f ∷ rs) ≡ cond (runHeld f) (after f f (f .count) rs) Unshaped
 unfolding runsShaped
 found-is f rs =
-    go (runHeld f) refl (follows f rs) (runsShaped rs) refl ∙ ap (λ a. cond (runHeld f) a Unshaped) (sym (after-is f f (f .count) rs))
+    go (runHeld f) refl (followedBy f rs) (runsShaped rs) refl ∙ ap (λ a. cond (runHeld f) a Unshaped) (sym (after-is f f (f .count) rs))
   where
     go : (h : Bool) → runHeld f ≡ h → (k s : Bool) → runsShaped rs ≡ s →
         cond (h && k && s) (summary (referencesOf (f ∷ rs))) Unshaped ≡
-        cond h (cond (k && s) (Kept (firstIn f) (lastIn (lastRun f rs)) (f .count + total rs)) Unshaped) Unshaped
+        cond h (cond (k && s) (Kept (firstIn f) (lastIn (lastRun f rs)) (f .count + totalCount rs)) Unshaped) Unshaped
     go true e true true t = summarized f rs (run-facts f e .some) t
     go true e true false t = refl
     go true e false s t = refl
@@ -148,7 +148,7 @@ module _ (ws : List ℕ) (used : ℕ) (first last : Run) (n i left : ℕ) (p : P
       let none : 0 ≡ left = omega arith in
       ap₂ (λ a b. Kept a b n) e k ∙ ap (λ (m : ℕ). after first last n (runsOf m (drop i ws))) none ∙ p .rest
 
-  module _ (some : 0 < left) (x : Run) (e : x ≡ runAt ws i) (j : Bool) (k : j ≡ joins last x) where
+  module _ (some : 0 < left) (x : Run) (e : x ≡ runAt ws i) (j : Bool) (k : j ≡ follows last x) where
     goes : found (runsOf used ws) ≡ cond j (cond (runHeld x) (after first x (n + x .count) (runsOf (left - 1) (drop (i + 3) ws))) Unshaped) Unshaped
     unfolding after
     goes =

@@ -13,7 +13,7 @@ use Rattle.window.specs.Place.{beforeEnd}
 use Rattle.window.specs.Window.{endOf, passed}
 use Rattle.runs.specs.Words.{keptIn}
 use Rattle.runs.specs.Shape.{shaped}
-use Rattle.runs.specs.Joining.{lastEnd}
+use Rattle.runs.specs.Ends.{lastEnd}
 use Rattle.agreement.specs.declared.Record.{Record}
 
 -- the references that record and table keep, oldest first

@@ -1,4 +1,5 @@
--- What a pass over the used runs of any words finds. Paper: Record and table.
+-- What the inner step that passes over the used runs of any words finds, and when that is what the record says. It states no
+-- rule of the paper: `agrees` does (Agreement).
 use Prim.Native.Nat.{suc, _+_, _*_, _-_}
 use mathlib.Core.Bool.{Bool, false, cond, _&&_, not}
 use lib.Dec.{eqb}
@@ -8,9 +9,9 @@ use Rattle.window.specs.declared.Reference.{Reference}
 use Rattle.window.specs.Place.{beforeEnd}
 use Rattle.window.specs.Window.{endOf, passed}
 use Rattle.runs.specs.declared.Run.{Run}
-use Rattle.runs.specs.Joining.{Within}
+use Rattle.runs.specs.Ends.{Within}
 use Rattle.agreement.specs.declared.Record.{Record}
-use Rattle.runs.specs.Words.{runEnd, referencesOf}
+use Rattle.runs.specs.Words.{referencesOf}
 use Rattle.runs.specs.Shape.{runsShaped}
 use Rattle.agreement.specs.declared.Found.{Found}
 use Rattle.agreement.specs.declared.Found.the-variants.{Unshaped, Nothing, Kept}
@@ -21,10 +22,6 @@ firstIn r = record { start = r .start; span = r .span }
 
 abbrev pub lastIn : Run → Reference
 lastIn r = record { start = record { 0 = r .start .0 + r .span .0 * (r .count - 1) }; span = r .span }
-
--- the second run begins where the first ends, with another duration
-abbrev pub joins : Run → Run → Bool
-joins r x = eqb (runEnd r) (x .start .0) && not (eqb (r .span .0) (x .span .0))
 
 unfoldable pub lastOf : Reference → List Reference → Reference
 lastOf r [] = r

@@ -1,7 +1,7 @@
 // Whether record and table agree: the limits, the shape of the table, and what it keeps.
 ghost use mathlib.Core.Path.{_≡_};
 ghost use mathlib.Core.Bool.{true};
-ghost use Rattle.window.specs.Ticks.{reached};
+ghost use Rattle.window.specs.Ticks.{isPassed};
 ghost use Rattle.agreement.specs.Agreement.{countsHeld, recordHeld, agrees};
 ghost use Rattle.agreement.specs.Finding.{Sized, foundRight};
 use crate::Found;
@@ -27,8 +27,8 @@ pub fn counts_held(first: Number, accepted: u64) -> bool
 }
 
 // Whether an end is among those that are passed.
-pub fn is_reached(passed: Passed, end: WideTick) -> bool
-    ensures { λ r. ⌜ r ≡ reached passed (end .0) ⌝ }
+pub fn is_passed(passed: Passed, end: WideTick) -> bool
+    ensures { λ r. ⌜ r ≡ isPassed passed (end .0) ⌝ }
 {
     match passed {
         Passed::All => true,
@@ -62,7 +62,7 @@ impl Record {
         }
         let passed = self.head.passed_ends(self.clock);
         let end = WideTick(first.start.0 + first.span.0);
-        if is_reached(passed, end) {
+        if is_passed(passed, end) {
             return false;
         }
         self.head.before_end(last.start)

@@ -9,7 +9,7 @@ mod refusal;
 mod scan;
 
 pub use judge::counts_held;
-pub use judge::is_reached;
+pub use judge::is_passed;
 pub use refusal::Refusal;
 
 // What is kept beside the table: the head, the counts, the next tick, the greatest clock.

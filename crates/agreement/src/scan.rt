@@ -5,7 +5,8 @@ ghost use Prim.Native.Nat.{_*_, _≤_};
 ghost use lib.ListN.{length, drop};
 ghost use Rattle.runs.specs.Words.{runsOf, runEnd};
 ghost use Rattle.runs.specs.Shape.{runHeld, zeros};
-ghost use Rattle.agreement.specs.Finding.{found, joins, firstIn, lastIn};
+ghost use Rattle.agreement.specs.Finding.{found, firstIn, lastIn};
+ghost use Rattle.runs.specs.Shape.{follows};
 use crate::Found;
 use runs::Run;
 use units::Tick;
@@ -39,7 +40,7 @@ fn run_end(run: Run) -> Tick
 // Inner: whether a run begins where a held one ends, with another duration.
 fn run_joins(last: Run, run: Run) -> bool
     requires { ⌜ runHeld last ≡ true ⌝ }
-    ensures { λ r. ⌜ r ≡ joins last run ⌝ }
+    ensures { λ r. ⌜ r ≡ follows last run ⌝ }
 {
     let end = run_end(last);
     if end.0 != run.start.0 {

@@ -11,8 +11,8 @@ use Rattle.window.specs.Window.{Stretch}
 use Rattle.window.specs.declared.Needed.{Needed}
 use Rattle.window.specs.Ticks.{named, NeededTicks}
 use Rattle.runs.specs.Words.{runsOf, referencesOf, keptIn}
-use Rattle.runs.specs.Joining.{Within}
-use Rattle.runs.proofs.Joins.{kept-join, kept-within, kept-end}
+use Rattle.runs.specs.Ends.{Within}
+use Rattle.runs.proofs.EndToStart.{kept-join, kept-within, kept-end}
 use Rattle.runs.proofs.Tables.{used-words}
 use Rattle.agreement.specs.declared.Record.{Record}
 use Rattle.agreement.specs.Agreement.{agrees, kept}

@@ -8,7 +8,7 @@ use native.Mathlib.Nat.{mul-div-cancel-left, div-lt-iff-lt-mul}
 use native.Mathlib.Omega.{arith}
 use borrow.Author.Tests.{eq-eqb, ne-eqb, not-true}
 use lib.Dec.{eqb, leb}
-use Rattle.units.specs.Exactly.{Exactly}
+use Rattle.units.specs.Exactly.{ExactlyWhen}
 use Rattle.units.specs.Limits.{clockHeld}
 use Rattle.units.specs.declared.WideMillis.{WideMillis}
 use Rattle.units.specs.declared.WideTick.{WideTick}
@@ -37,7 +37,7 @@ counts-complete n c l =
 -- ---- THE THEOREM
 
 module _ (h : Head) (w : Stretch) (rs : List Reference) where
-  pub complete-exactly : Exactly (complete (verdictOf h w rs)) (Whole h w rs)
+  pub complete-exactly : ExactlyWhen (complete (verdictOf h w rs) ≡ true) (Whole h w rs)
   complete-exactly = record { only = only; if = if }
     where
       only : complete (verdictOf h w rs) ≡ true → Whole h w rs
@@ -57,11 +57,11 @@ module _ (h : Head) (w : Stretch) (rs : List Reference) where
 
 -- the same of the answers: a refused call is not complete
 pub complete-at : (rec : Record) (ws : List ℕ) (c : WideMillis) →
-    Exactly (complete (verdictAt rec ws c))
+    ExactlyWhen (complete (verdictAt rec ws c) ≡ true)
     ((agrees rec ws ≡ true) × (clockHeld c ≡ true) × (leb (rec .clock .0) (c .0) ≡ true) × Whole (rec .head) (windowAt (rec .head) (c .0)) (kept rec ws))
 complete-at rec ws c = record { only = only; if = if }
   where
-    here : Exactly (complete (verdictOf (rec .head) (windowAt (rec .head) (c .0)) (kept rec ws))) (Whole (rec .head) (windowAt (rec .head) (c .0)) (kept rec ws))
+    here : ExactlyWhen (complete (verdictOf (rec .head) (windowAt (rec .head) (c .0)) (kept rec ws)) ≡ true) (Whole (rec .head) (windowAt (rec .head) (c .0)) (kept rec ws))
     here = complete-exactly (rec .head) (windowAt (rec .head) (c .0)) (kept rec ws)
 
     Asked : Type 0
@@ -76,10 +76,10 @@ complete-at rec ws c = record { only = only; if = if }
     if p = ap complete (asked-at rec ws c (p .0) (p .1) (p .2)) ∙ here .if (p .3)
 
 pub complete-whole : (rec : Record) (ws : List ℕ) →
-    Exactly (complete (verdictWhole rec ws)) ((agrees rec ws ≡ true) × (endKnown (rec .head) ≡ true) × Whole (rec .head) (wholePeriod (rec .head)) (kept rec ws))
+    ExactlyWhen (complete (verdictWhole rec ws) ≡ true) ((agrees rec ws ≡ true) × (endKnown (rec .head) ≡ true) × Whole (rec .head) (wholePeriod (rec .head)) (kept rec ws))
 complete-whole rec ws = record { only = only; if = if }
   where
-    here : Exactly (complete (verdictOf (rec .head) (wholePeriod (rec .head)) (kept rec ws))) (Whole (rec .head) (wholePeriod (rec .head)) (kept rec ws))
+    here : ExactlyWhen (complete (verdictOf (rec .head) (wholePeriod (rec .head)) (kept rec ws)) ≡ true) (Whole (rec .head) (wholePeriod (rec .head)) (kept rec ws))
     here = complete-exactly (rec .head) (wholePeriod (rec .head)) (kept rec ws)
 
     Asked : Type 0

@@ -15,12 +15,12 @@ use Rattle.units.proofs.Signed.{Is, up}
 use Rattle.window.specs.declared.Head.{Head}
 use Rattle.window.specs.declared.Reference.{Reference}
 use Rattle.window.specs.Place.{place, later, earlier}
-use Rattle.window.specs.References.{Joined, Each}
+use Rattle.window.specs.References.{EndToStart, Each}
 use Rattle.window.specs.Window.{Stretch, endOf, tickNeeded}
 use Rattle.window.proofs.Unsigned.{up-lt, later-up, earlier-up, place-is}
 use Rattle.window.proofs.Ranges.{in-range, before-range, range-cases}
-use Rattle.runs.specs.Joining.{lastEnd, Within}
-use Rattle.runs.proofs.Joins.{ticks-taken}
+use Rattle.runs.specs.Ends.{lastEnd, Within}
+use Rattle.runs.proofs.EndToStart.{ticks-taken}
 use Rattle.answers.specs.Cover.{coveredBy}
 use Rattle.answers.specs.Counts.{beyond}
 use Rattle.answers.specs.Ranges.{inRange, Reach}
@@ -37,7 +37,7 @@ ranges-join a b c k l m =
     (λ t i. ap (λ s. s || inRange b c k) t ∙ ap (λ s. s && ltb k c) (le-leb b k i ∙ sym (le-leb a k (omega arith))))
 
 -- THE LAW: joined references cover exactly the ticks from the first start up to the last end
-joined-cover : (t : ℕ) (rs : List Reference) → Joined t rs → Each Within rs → (k : ℕ) → coveredBy rs k ≡ inRange t (lastEnd t rs) k
+joined-cover : (t : ℕ) (rs : List Reference) → EndToStart t rs → Each Within rs → (k : ℕ) → coveredBy rs k ≡ inRange t (lastEnd t rs) k
 unfolding coveredBy lastEnd
 joined-cover t [] j w k = range-cases t t k (λ s l m. let z : ⊥ = omega arith in absurd z) (λ s l. sym s) (λ s l. sym s)
 joined-cover t (r ∷ rs) j w k =

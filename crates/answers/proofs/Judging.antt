@@ -16,7 +16,7 @@ use Rattle.window.specs.References.{Each}
 use Rattle.window.specs.Window.{Stretch, tickNeeded}
 use Rattle.window.specs.Ticks.{named, NamesSome, NeededTicks}
 use Rattle.window.proofs.Ranges.{in-range, before-range, past-range, range-cases, range-first, range-last}
-use Rattle.runs.specs.Joining.{Within}
+use Rattle.runs.specs.Ends.{Within}
 use Rattle.answers.specs.declared.Verdict.{Verdict}
 use Rattle.answers.specs.declared.Verdict.the-variants.{Nothing, Complete, Lacking}
 use Rattle.answers.specs.Cover.{coveredBy}

@@ -20,7 +20,7 @@ use Rattle.window.specs.References.{Each}
 use Rattle.runs.specs.declared.Run.{Run}
 use Rattle.runs.specs.Words.{runAt, runsOf, repeated, referencesOf, keptIn}
 use Rattle.runs.specs.Shape.{runHeld, runsShaped, shaped}
-use Rattle.runs.specs.Joining.{Within}
+use Rattle.runs.specs.Ends.{Within}
 use Rattle.runs.proofs.Opening.{run-opens, repeated-length}
 use Rattle.runs.proofs.Encoded.{first-held, leads, ref}
 use Rattle.runs.proofs.Tables.{used-words, runs-shaped}

@@ -21,7 +21,7 @@ use Rattle.window.specs.declared.Reference.{Reference}
 use Rattle.window.specs.Place.{place}
 use Rattle.window.specs.Window.{endOf}
 use Rattle.window.proofs.Unsigned.{place-is}
-use Rattle.runs.specs.Joining.{Within}
+use Rattle.runs.specs.Ends.{Within}
 use Rattle.agreement.specs.declared.refusal.Refusal.the-variants.{NotKept}
 use Rattle.answers.specs.declared.Numbered.{Numbered}
 use Rattle.answers.specs.declared.Numbered.the-variants.{Kept, Missing}

@@ -7,8 +7,8 @@ use lib.Dec.{leb, ltb}
 use Rattle.window.specs.declared.Reference.{Reference}
 use Rattle.window.specs.declared.Needed.{Needed}
 use Rattle.window.specs.declared.Needed.the-variants as needed
-use Rattle.window.specs.References.{Joined}
-use Rattle.runs.specs.Joining.{lastEnd}
+use Rattle.window.specs.References.{EndToStart}
+use Rattle.runs.specs.Ends.{lastEnd}
 use Rattle.answers.specs.declared.Verdict.{Verdict}
 use Rattle.answers.specs.Counts.{countBelow, leastBelow}
 use Rattle.answers.specs.Judgement.{judged}
@@ -28,5 +28,5 @@ pastNamed (needed.Ticks a b) = b .0
 
 -- references that join from tick t, and end at tick e
 pub record Reach (t e : ℕ) (rs : List Reference) : Type 0 where
-  pub joined : Joined t rs
+  pub joined : EndToStart t rs
   pub ends : lastEnd t rs ≡ e

@@ -6,7 +6,7 @@ use Rattle.window.specs.declared.Head.{Head}
 use Rattle.window.specs.declared.Reference.{Reference}
 use Rattle.window.specs.Window.{endOf}
 use Rattle.runs.specs.declared.Run.{Run}
-use Rattle.runs.specs.Joining.{Within}
+use Rattle.runs.specs.Ends.{Within}
 use Rattle.answers.specs.declared.Numbered.{Numbered}
 use Rattle.answers.specs.declared.Numbered.the-variants.{Kept, Missing}
 use Rattle.answers.specs.declared.Touching.{Touching}

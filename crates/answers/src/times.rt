@@ -5,7 +5,7 @@ ghost use Prim.Native.Nat.{_≤_};
 ghost use lib.IntN.{pos, _-ℤ_};
 ghost use Rattle.units.specs.Limits.{largestMillis, largestGrain};
 ghost use Rattle.window.specs.Limits.{Held};
-ghost use Rattle.runs.specs.Joining.{Within};
+ghost use Rattle.runs.specs.Ends.{Within};
 ghost use Rattle.answers.specs.Available.{available, availabilityOf, numberAvailability, numberAvailable, availabilityIn, availableIn};
 ghost use Rattle.answers.specs.Steps.{FoundWithin, Begins, Stops};
 use crate::Availability;

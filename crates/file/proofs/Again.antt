@@ -1,7 +1,7 @@
 -- A file that is written reads back: its lines are its frames again, and each S line appends its run, so that the same references are kept under
 -- the same numbers in the same words.
 use mathlib.Core.Path.{_≡_, refl, sym, ap, ap₂, subst, subst⁻¹, _∙_}
-use mathlib.Core.Bool.{Bool, true, not, _&&_, and-eq-true-iff}
+use mathlib.Core.Bool.{Bool, true, not, and-eq-true-iff, _&&_}
 use mathlib.Core.List.{List, [], _∷_, _++_, append-assoc}
 use Prim.Native.Nat.{ℕ, zero, suc, _+_, _-_, _*_, _/_, _^_, _≤_}
 use native.Mathlib.Omega.{arith}
@@ -14,21 +14,21 @@ use Rattle.window.specs.declared.Reference.{Reference}
 use Rattle.window.specs.Limits.{headHeld}
 use Rattle.window.specs.Place.{beforeEnd}
 use Rattle.window.specs.Window.{endOf, passed}
-use Rattle.window.specs.References.{Joined}
+use Rattle.window.specs.References.{EndToStart}
 use Rattle.runs.specs.declared.Run.{Run}
 use Rattle.runs.specs.Words.{repeated, referencesOf, capacity}
 use Rattle.runs.specs.Shape.{runsShaped}
-use Rattle.runs.specs.Joining.{lastEnd}
+use Rattle.runs.specs.Ends.{lastEnd}
 use Rattle.runs.specs.Encoding.{encode, runsFor, tableOf, canonical}
 use Rattle.runs.proofs.Opening.{referencesIn, repeated-length}
 use Rattle.runs.proofs.Encoded.{leads, shaped-front, shaped-last, Starts, encoded}
-use Rattle.runs.proofs.Joins.{join-back, references-append, references-of-run, references-join, references-end}
+use Rattle.runs.proofs.EndToStart.{join-back, references-append, references-of-run, references-join, references-end}
 use Rattle.runs.proofs.Tables.{table-runs, table-length}
 use Rattle.agreement.specs.declared.Record.{Record}
 use Rattle.agreement.specs.Agreement.{kept, every, countsHeld, agrees}
 use Rattle.keeping.specs.declared.Outcome.the-variants as outcome
 use Rattle.keeping.specs.Keeping.{unspent}
-use Rattle.keeping.specs.Joined.{given, allOf, leftOf, roomOutcome, fitOutcome, appended}
+use Rattle.keeping.specs.Append.{given, allOf, unspentOf, roomOutcome, fitOutcome, appended}
 use Rattle.keeping.proofs.Unspent.{unspent-every, every-append}
 use Rattle.timeline.specs.Appending.{appendOutcome}
 use Rattle.timeline.proofs.Judged.{stands-joins}
@@ -42,10 +42,10 @@ module _ (t : Reference → Bool) (xs ys : List Reference) (e : every t (xs ++ y
 -- ---- an append that meets every condition is accepted
 
 fit-accepted : (rec : Record) (ws : List ℕ) (d n : ℕ) → rec .next .0 + d * n ≤ largestTick → countsHeld (rec .head .first .0) (rec .accepted + n) ≡ true →
-    every (λ r. beforeEnd (rec .head) (r .start .0)) (given rec d n) ≡ true → runsFor (leftOf rec ws d n) ≤ capacity ws → fitOutcome rec ws d n ≡ outcome.Accepted
+    every (λ r. beforeEnd (rec .head) (r .start .0)) (given rec d n) ≡ true → runsFor (unspentOf rec ws d n) ≤ capacity ws → fitOutcome rec ws d n ≡ outcome.Accepted
 unfolding fitOutcome roomOutcome
 fit-accepted rec ws d n e c b r =
-    simp (le-leb (rec .next .0 + d * n) largestTick e, c, b, le-leb (runsFor (leftOf rec ws d n)) (capacity ws) r)
+    simp (le-leb (rec .next .0 + d * n) largestTick e, c, b, le-leb (runsFor (unspentOf rec ws d n)) (capacity ws) r)
 
 -- ---- runs that are appended one after another
 
@@ -106,10 +106,10 @@ module _ (h : Head) (t words : ℕ) (xs : List Run) (x : Run) (ys : List Run) (k
   unfolding referencesOf repeated
   joins = go (x .count) (leads x [] lead .some) (join-back t (referencesOf xs) (referencesOf (x ∷ ys)) all-joined)
     where
-      all-joined : Joined t (referencesOf xs ++ referencesOf (x ∷ ys))
-      all-joined = subst (Joined t) (references-append xs (x ∷ ys)) (references-join t (xs ++ x ∷ ys) (k .shape) (k .start))
+      all-joined : EndToStart t (referencesOf xs ++ referencesOf (x ∷ ys))
+      all-joined = subst (EndToStart t) (references-append xs (x ∷ ys)) (references-join t (xs ++ x ∷ ys) (k .shape) (k .start))
 
-      go : (n : ℕ) → 1 ≤ n → Joined (lastEnd t (referencesOf xs)) (repeated (x .start .0) (x .span .0) n ++ referencesOf ys) → x .start .0 ≡ lastEnd t (referencesOf xs)
+      go : (n : ℕ) → 1 ≤ n → EndToStart (lastEnd t (referencesOf xs)) (repeated (x .start .0) (x .span .0) n ++ referencesOf ys) → x .start .0 ≡ lastEnd t (referencesOf xs)
       go zero l j = let z : ⊥ = omega arith in absurd z
       go (suc n) l j = j .0
 
@@ -124,14 +124,14 @@ module _ (h : Head) (t words : ℕ) (xs : List Run) (x : Run) (ys : List Run) (k
   all-are : allOf rec ws (x .span .0) (x .count) ≡ referencesOf more
   all-are = ap₂ _++_ kept-are given-are ∙ sym more-are
 
-  left-are : leftOf rec ws (x .span .0) (x .count) ≡ referencesOf more
+  left-are : unspentOf rec ws (x .span .0) (x .count) ≡ referencesOf more
   unfolding rec
   left-are =
       ap (unspent h 0) all-are ∙
       unspent-every h 0 (referencesOf more)
       (every-parts (λ r. not (passed h (endOf r) 0)) (referencesOf more) (referencesOf ys) (subst (λ rs. every (λ r. not (passed h (endOf r) 0)) rs ≡ true) whole (k .coming)) .0)
 
-  runs-are : runsFor (leftOf rec ws (x .span .0) (x .count)) ≡ length more
+  runs-are : runsFor (unspentOf rec ws (x .span .0) (x .count)) ≡ length more
   runs-are = ap runsFor left-are ∙ ap length (encoded more more-shaped)
 
   more-long : length more ≤ words / 3
@@ -175,13 +175,13 @@ module _ (h : Head) (t words : ℕ) (xs : List Run) (x : Run) (ys : List Run) (k
   pub step-record : appended (recordOf h t xs) (tableOf words xs) (x .span .0) (x .count) ≡ recordOf h t (xs ++ x ∷ [])
   unfolding rec ws more counted
   step-record =
-      let gone : 0 + (length (allOf rec ws (x .span .0) (x .count)) - length (leftOf rec ws (x .span .0) (x .count))) ≡ 0 =
+      let gone : 0 + (length (allOf rec ws (x .span .0) (x .count)) - length (unspentOf rec ws (x .span .0) (x .count))) ≡ 0 =
       omega (arith, ap length all-are, ap length left-are)
       in
       _∙_ {b = counted (length (referencesOf xs) + x .count) 0 (lastEnd t (referencesOf xs) + x .span .0 * x .count) (length more)}
       (ap₂ (λ (m u : ℕ). counted (length (referencesOf xs) + x .count) m (lastEnd t (referencesOf xs) + x .span .0 * x .count) u) gone runs-are)
       (ap₂ (λ (n e : ℕ). counted n 0 e (length more)) count-is end-is)
 
-  pub step-words : canonical (length (tableOf words xs)) (leftOf (recordOf h t xs) (tableOf words xs) (x .span .0) (x .count)) ≡ tableOf words (xs ++ x ∷ [])
+  pub step-words : canonical (length (tableOf words xs)) (unspentOf (recordOf h t xs) (tableOf words xs) (x .span .0) (x .count)) ≡ tableOf words (xs ++ x ∷ [])
   unfolding rec ws more
   step-words = ap₂ (λ (n : ℕ) (rs : List Run). tableOf n rs) words-long (ap encode left-are ∙ encoded more more-shaped)

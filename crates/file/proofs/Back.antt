@@ -15,7 +15,7 @@ use Rattle.window.specs.Limits.{fieldsOf}
 use Rattle.runs.specs.declared.Run.{Run}
 use Rattle.runs.specs.Words.{wordsOf, referencesOf}
 use Rattle.runs.specs.Shape.{runsShaped}
-use Rattle.runs.specs.Joining.{lastEnd}
+use Rattle.runs.specs.Ends.{lastEnd}
 use Rattle.runs.specs.Encoding.{tableOf}
 use Rattle.runs.proofs.Encoded.{leads}
 use Rattle.agreement.specs.declared.Record.{Record}
@@ -27,16 +27,18 @@ use Rattle.keeping.specs.Keeping.{wordsBy}
 use Rattle.timeline.specs.Opening.{freshRecord, openOutcome}
 use Rattle.timeline.specs.Appending.{appendOutcome}
 use Rattle.timeline.proofs.Kept.{open-agrees, accepted-keeps}
+use Rattle.frames.specs.Fields.{allOnes}
 use Rattle.frames.specs.declared.Frame.{Frame}
 use Rattle.frames.specs.declared.Frame.the-variants.{Head as HeadFrame, End}
 use Rattle.frames.specs.declared.SFields.{SFields}
-use Rattle.frames.specs.Frames.{Fits, lineOf, endedLine}
+use Rattle.frames.specs.Language.{AllFit}
+use Rattle.frames.specs.Frames.{lineOf, endedLine}
 use Rattle.frames.proofs.Lines.{no-feed, frame-written-read}
 use Rattle.file.specs.declared.Stage.{Stage}
 use Rattle.file.specs.declared.Stage.the-variants.{Nothing, Headed, Open, Ended}
 use Rattle.file.specs.declared.Reading.{Reading}
 use Rattle.file.specs.Lines.{lineFeed, linesFrom, restFrom, Unended}
-use Rattle.file.specs.Judging.{File, taken, refused, settledReading, absent, firstTick, firstNegative, appendedBy, reachesBy, takeS, openedBy, takeFirstS, takeHead, takeEnd, onNothing, onHeaded, onOpen, onFrame, takeLine, takeLines, begun}
+use Rattle.file.specs.Judging.{File, taken, refused, settledReading, firstTick, firstNegative, appendedBy, reachesBy, takeS, openedBy, takeFirstS, takeHead, takeEnd, onNothing, onHeaded, onOpen, onFrame, takeLine, takeLines, begun}
 use Rattle.file.specs.Writing.{sFrame, laterFrames, sFrames, bytesOf}
 use Rattle.file.proofs.Cutting.{line-next, rest-next}
 use Rattle.file.proofs.Output.{run-few}
@@ -50,10 +52,6 @@ unended (b ∷ bs) u = (u 0 (omega arith), unended bs (λ i h e. u (suc i) (omeg
 
 pub unended-line : (f : Frame) → Unended (lineOf f)
 unended-line f = unended (lineOf f) (no-feed f)
-
-abbrev pub AllFit : List Frame → Type 0
-AllFit [] = Unit {0}
-AllFit (f ∷ fs) = Fits f × AllFit fs
 
 -- frames taken one after another
 abbrev takeFrames : File → List Frame → File
@@ -139,9 +137,9 @@ unfolding laterFrames onOpen
 later-taken h t words [] xs k a lines fs =
     ap₂ (λ (rs : List Run) (n : ℕ). takeFrames (runsTaken h t words rs Open n) fs) (sym (append-nil xs)) (omega arith)
 later-taken h t words (y ∷ ys) xs k a lines fs =
-    ap (λ st. takeFrames (takeS (record { stage = Open; lines = lines; rec = recordOf h t xs }) (tableOf words xs) st (record { t = record { 0 = absent }; d = y .span .0; r = y .count - 1 })) (laterFrames ys ++ fs))
-    (ap (λ b. cond b Joins (tickStanding (record { 0 = absent }) (recordOf h t xs .next))) (eq-eqb absent absent refl)) ∙
-    ap (λ z. takeFrames z (laterFrames ys ++ fs)) (run-taken h t words xs y ys k a Open lines absent) ∙
+    ap (λ st. takeFrames (takeS (record { stage = Open; lines = lines; rec = recordOf h t xs }) (tableOf words xs) st (record { t = record { 0 = allOnes }; d = y .span .0; r = y .count - 1 })) (laterFrames ys ++ fs))
+    (ap (λ b. cond b Joins (tickStanding (record { 0 = allOnes }) (recordOf h t xs .next))) (eq-eqb allOnes allOnes refl)) ∙
+    ap (λ z. takeFrames z (laterFrames ys ++ fs)) (run-taken h t words xs y ys k a Open lines allOnes) ∙
     later-taken h t words ys (xs ++ y ∷ []) (subst (Takeable h t words) (sym (append-assoc xs (y ∷ []) ys)) k) (more-agrees h t words xs y ys k a) (lines + 1) fs ∙
     ap₂ (λ (rs : List Run) (n : ℕ). takeFrames (runsTaken h t words rs Open n) fs) (append-assoc xs (y ∷ []) ys) (omega arith)
 
@@ -178,7 +176,7 @@ module _ (h : Head) (words : ℕ) (x : Run) (ys : List Run) (k : Takeable h (x .
   first-taken =
       let s : SFields = record { t = record { 0 = x .start .0 }; d = x .span .0; r = x .count - 1 } in
       let there : firstTick (s .t) ≡ record { 0 = x .start .0 } =
-      ap (λ b. cond b (record { 0 = 0 }) (s .t)) (ne-eqb (x .start .0) absent (λ z. let f : ⊥ = omega (arith, tick-small) in f))
+      ap (λ b. cond b (record { 0 = 0 }) (s .t)) (ne-eqb (x .start .0) allOnes (λ z. let f : ⊥ = omega (arith, tick-small) in f))
       in
       ap (λ o. openedBy o headed came s) (ap (λ t. openOutcome h (tickOf t)) there ∙ opens) ∙
       ap₂ (λ (y : Record) (vs : List ℕ). takeS (record { stage = Headed; lines = 0 + 1; rec = y }) vs Joins s) (ap (λ t. freshRecord h (tickOf t)) there ∙ fresh-is) zeros-are ∙

@@ -14,7 +14,7 @@ use Rattle.agreement.specs.declared.Record.{Record}
 use Rattle.agreement.specs.declared.refusal.Refusal.the-variants.{OverLimit, BadOrder}
 use Rattle.keeping.specs.declared.Outcome.{Outcome}
 use Rattle.keeping.specs.declared.Outcome.the-variants as outcome
-use Rattle.keeping.specs.Joined.{appended}
+use Rattle.keeping.specs.Append.{appended}
 use Rattle.timeline.specs.Opening.{freshRecord, openOutcome}
 use Rattle.timeline.specs.Appending.{appendOutcome}
 use Rattle.frames.specs.declared.Frame.{Frame}

@@ -20,10 +20,10 @@ use Rattle.runs.proofs.Opening.{referencesIn, runs-length, repeated-length, run
 use Rattle.runs.proofs.Encoded.{Leads, leads, shaped-drop}
 use Rattle.runs.proofs.Tables.{runs-shaped}
 use Rattle.runs.proofs.Walking.{place-there}
+use Rattle.frames.specs.Fields.{allOnes}
 use Rattle.frames.specs.declared.Frame.{Frame}
 use Rattle.frames.specs.declared.Frame.the-variants.{Bad}
 use Rattle.frames.specs.Frames.{Fits, lineLength, kindOf, endedLine, Written as WrittenLine}
-use Rattle.file.specs.Judging.{absent}
 use Rattle.file.specs.Writing.{sFrame, laterFrames, sFrames, bytesOf}
 
 -- ---- the rest of an output
@@ -42,20 +42,20 @@ tail-put out p rest line ys at n e l k =
 
 -- ---- the frames of runs
 
-later-at : (rs : List Run) (i : ℕ) (other : Run) → i < length rs → getD (laterFrames rs) i Bad ≡ sFrame absent (getD rs i other)
+later-at : (rs : List Run) (i : ℕ) (other : Run) → i < length rs → getD (laterFrames rs) i Bad ≡ sFrame allOnes (getD rs i other)
 unfolding laterFrames
 later-at [] i other h = let z : ⊥ = omega arith in absurd z
 later-at (r ∷ rs) zero other h = refl
 later-at (r ∷ rs) (suc i) other h = later-at rs i other (omega arith)
 
 s-at : (rs : List Run) (i : ℕ) (other : Run) → i < length rs →
-    getD (sFrames rs) i Bad ≡ sFrame (cond (eqb i 0) (getD rs i other .start .0) absent) (getD rs i other)
+    getD (sFrames rs) i Bad ≡ sFrame (cond (eqb i 0) (getD rs i other .start .0) allOnes) (getD rs i other)
 unfolding sFrames
 s-at [] i other h = let z : ⊥ = omega arith in absurd z
 s-at (r ∷ rs) zero other h = refl
 s-at (r ∷ rs) (suc i) other h =
     later-at rs i other (omega arith) ∙
-    ap (λ t. sFrame (cond t (getD rs i other .start .0) absent) (getD rs i other)) (sym (ne-eqb (suc i) 0 (λ z. let w : ⊥ = omega arith in w)))
+    ap (λ t. sFrame (cond t (getD rs i other .start .0) allOnes) (getD rs i other)) (sym (ne-eqb (suc i) 0 (λ z. let w : ⊥ = omega arith in w)))
 
 later-length : (rs : List Run) → length (laterFrames rs) ≡ length rs
 unfolding laterFrames
@@ -99,15 +99,15 @@ module _ (ws : List ℕ) (i : ℕ) (r : Run) (e : r ≡ runAt ws (i * 3)) where
   pub s-counts : 1 ≤ runAt ws (i * 3) .count → 1 ≤ r .count
   s-counts h = subst⁻¹ (λ (x : Run). 1 ≤ x .count) e h
 
-  pub s-first : i ≡ 0 → sFrame (r .start .0) r ≡ sFrame (cond (eqb i 0) (runAt ws (i * 3) .start .0) absent) (runAt ws (i * 3))
+  pub s-first : i ≡ 0 → sFrame (r .start .0) r ≡ sFrame (cond (eqb i 0) (runAt ws (i * 3) .start .0) allOnes) (runAt ws (i * 3))
   s-first z =
       ap (λ (x : Run). sFrame (x .start .0) x) e ∙
-      sym (ap (λ t. sFrame (cond t (runAt ws (i * 3) .start .0) absent) (runAt ws (i * 3))) (eq-eqb i 0 z))
+      sym (ap (λ t. sFrame (cond t (runAt ws (i * 3) .start .0) allOnes) (runAt ws (i * 3))) (eq-eqb i 0 z))
 
-  pub s-later : (i ≡ 0 → ⊥) → sFrame absent r ≡ sFrame (cond (eqb i 0) (runAt ws (i * 3) .start .0) absent) (runAt ws (i * 3))
+  pub s-later : (i ≡ 0 → ⊥) → sFrame allOnes r ≡ sFrame (cond (eqb i 0) (runAt ws (i * 3) .start .0) allOnes) (runAt ws (i * 3))
   s-later n =
-      ap (λ (x : Run). sFrame absent x) e ∙
-      sym (ap (λ t. sFrame (cond t (runAt ws (i * 3) .start .0) absent) (runAt ws (i * 3))) (ne-eqb i 0 n))
+      ap (λ (x : Run). sFrame allOnes x) e ∙
+      sym (ap (λ t. sFrame (cond t (runAt ws (i * 3) .start .0) allOnes) (runAt ws (i * 3))) (ne-eqb i 0 n))
 
 -- ---- the S lines of a table, one by one
 
@@ -139,13 +139,13 @@ module _ (ws : List ℕ) (used : ℕ) (out₀ : List ℕ) (h : (shaped used ws �
       lined-run = (place-there used ws (h .0) i l, here-leads .some)
 
       time : ℕ
-      time = cond (eqb i 0) (runAt ws (i * 3) .start .0) absent
+      time = cond (eqb i 0) (runAt ws (i * 3) .start .0) allOnes
 
       time-small : time < 2 ^ 64
       unfolding time here
       time-small = go (eqb i 0)
         where
-          go : (t : Bool) → cond t (runAt ws (i * 3) .start .0) absent < 2 ^ 64
+          go : (t : Bool) → cond t (runAt ws (i * 3) .start .0) allOnes < 2 ^ 64
           go true = omega (arith, here-leads .ends)
           go false = omega arith
 
@@ -164,7 +164,7 @@ module _ (ws : List ℕ) (used : ℕ) (out₀ : List ℕ) (h : (shaped used ws �
           length-take (length out - at) (drop at out) ∙
           omega (arith, length-drop at out)
 
-      module _ (f : Frame) (e : f ≡ sFrame (cond (eqb i 0) (runAt ws (i * 3) .start .0) absent) (runAt ws (i * 3))) where
+      module _ (f : Frame) (e : f ≡ sFrame (cond (eqb i 0) (runAt ws (i * 3) .start .0) allOnes) (runAt ws (i * 3))) where
         pub lined-asks : Fits f × (lineLength (kindOf f) < length (take (length out - at) (drop at out)))
         unfolding time here
         lined-asks =
@@ -185,7 +185,7 @@ module _ (ws : List ℕ) (used : ℕ) (out₀ : List ℕ) (h : (shaped used ws �
               let there : i < length fs = omega (arith, frames-length (runsOf used ws), runs-length used ws) in
               let same : f ≡ getD fs i Bad =
               e ∙
-              ap (λ (r : Run). sFrame (cond (eqb i 0) (r .start .0) absent) r) (sym (run-counted used ws i (runAt ws (i * 3)) l)) ∙
+              ap (λ (r : Run). sFrame (cond (eqb i 0) (r .start .0) allOnes) r) (sym (run-counted used ws i (runAt ws (i * 3)) l)) ∙
               sym (s-at (runsOf used ws) i (runAt ws (i * 3)) (omega (arith, runs-length used ws)))
               in
               ap (λ bs. bytesOf (take i fs) ++ bs) (ap endedLine same ∙ sym (append-nil (endedLine (getD fs i Bad)))) ∙

@@ -9,12 +9,11 @@ use lib.Dec.{eqb, leb, ltb}
 use lib.ListN.{length, replicate, length-replicate}
 use Rattle.units.specs.declared.standing.Standing.{Standing}
 use Rattle.units.specs.declared.standing.Standing.the-variants.{Joins, Gap, Overlap}
-use Rattle.units.specs.Exactly.{Exactly}
+use Rattle.units.specs.Exactly.{ExactlyWhen}
 use Rattle.units.specs.Limits.{largestSpan, tickOf}
 use Rattle.window.specs.declared.Head.{Head}
 use Rattle.window.specs.Limits.{headHeld, headOf}
 use Rattle.window.specs.Place.{endKnown, beforeEnd}
-use Rattle.window.specs.Ticks.{LeastCount}
 use Rattle.runs.specs.Encoding.{canonical}
 use Rattle.runs.proofs.Tables.{canonical-length}
 use Rattle.agreement.specs.declared.Record.{Record}
@@ -24,10 +23,10 @@ use Rattle.agreement.specs.Agreement.{agrees}
 use Rattle.keeping.specs.declared.Outcome.{Outcome}
 use Rattle.keeping.specs.declared.Outcome.the-variants as outcome
 use Rattle.keeping.specs.Keeping.{wordsBy}
-use Rattle.keeping.specs.Joined.{leftOf, fitOutcome, appended}
+use Rattle.keeping.specs.Append.{unspentOf, fitOutcome, appended}
 use Rattle.keeping.proofs.Outcomes.{refused-not}
 use Rattle.timeline.specs.Opening.{freshRecord, openOutcome}
-use Rattle.timeline.specs.Appending.{joining, appendOutcome}
+use Rattle.timeline.specs.Appending.{byStanding, appendOutcome}
 use Rattle.timeline.proofs.Judged.{stands-joins}
 use Rattle.timeline.proofs.Kept.{open-agrees, taken, accepted-keeps}
 use Rattle.frames.specs.declared.Frame.{Frame}
@@ -42,7 +41,7 @@ use Rattle.file.specs.Lines.{linesOf}
 use Rattle.file.specs.Least.{leastCount}
 use Rattle.file.specs.Feeding.{mostLines, linesHeld, stageHeld}
 use Rattle.file.specs.Sound.{Running, Begins, Counted, Narrow, Sound}
-use Rattle.file.proofs.Counts.{least-some, least-holds}
+use Rattle.file.proofs.Counts.{least-holds}
 use Rattle.file.proofs.Places.{narrow, running-lines}
 
 -- and the table has as many words as it came with
@@ -52,7 +51,7 @@ SoundFile words x = Sound (x .reading .stage) (x .reading) (x .words) × (length
 -- ---- the test at a stage says just what holds there
 
 module _ (r : Reading) (ws : List ℕ) where
-  running-is : Exactly (linesHeld r ws) (Running r ws)
+  running-is : ExactlyWhen (linesHeld r ws ≡ true) (Running r ws)
   running-is =
       record {
         only = λ t.
@@ -65,10 +64,10 @@ module _ (r : Reading) (ws : List ℕ) where
             (le-leb (sLines r) (r .rec .accepted) (omega (arith, h .some, h .few)));
       }
 
-  few-is : Exactly (leb (r .lines) mostLines) (Counted r)
+  few-is : ExactlyWhen (leb (r .lines) mostLines ≡ true) (Counted r)
   few-is = record { only = λ t. record { few = leb-true (r .lines) mostLines t }; if = λ h. le-leb (r .lines) mostLines (h .few) }
 
-  pub stage-is : (s : Stage) → Exactly (stageHeld s r ws) (Sound s r ws)
+  pub stage-is : (s : Stage) → ExactlyWhen (stageHeld s r ws ≡ true) (Sound s r ws)
   unfolding stageHeld Sound
   stage-is Nothing = record { only = eqb-true (r .lines) 0; if = eq-eqb (r .lines) 0 }
   stage-is Headed =
@@ -97,16 +96,15 @@ reach-accepted : (rec : Record) (ws : List ℕ) (st : Standing) (d n : ℕ) → 
 unfolding reachOutcome
 reach-accepted rec ws st d n a l o = go (eqb d 0) refl st refl (endKnown (rec .head)) refl (beforeEnd (rec .head) (rec .next .0)) refl o
   where
-    some : endKnown (rec .head) ≡ true → beforeEnd (rec .head) (rec .next .0) ≡ true → (d ≡ 0 → ⊥) → n ≡ 0 → ⊥
-    some known before i z =
+    some : (d ≡ 0 → ⊥) → n ≡ 0 → ⊥
+    some i z =
         let lasts : 1 ≤ d = omega arith in
-        let least = subst⁻¹ (LeastCount (rec .head) (rec .next .0) d) l (least-holds (rec .head) (rec .next .0) d lasts known before) in
-        let f : ⊥ = omega (arith, least-some (rec .head) (rec .next .0) d lasts n known before least) in
+        let f : ⊥ = omega (arith, l, least-holds (rec .head) (rec .next .0) d lasts .some) in
         f
 
     go : (t : Bool) → eqb d 0 ≡ t → (k : Standing) → st ≡ k → (u : Bool) → endKnown (rec .head) ≡ u → (v : Bool) → beforeEnd (rec .head) (rec .next .0) ≡ v →
         cond t (outcome.Refused refusal.NothingGiven)
-        (joining k (cond u (cond v (fitOutcome rec ws d n) (outcome.Refused refusal.PastEnd)) (outcome.Refused refusal.NoEndToReach))) ≡
+        (byStanding k (cond u (cond v (fitOutcome rec ws d n) (outcome.Refused refusal.PastEnd)) (outcome.Refused refusal.NoEndToReach))) ≡
         outcome.Accepted →
         appendOutcome rec ws st d n ≡ outcome.Accepted
     go true e k j u p v q o = absurd (refused-not refusal.NothingGiven o)
@@ -114,7 +112,7 @@ reach-accepted rec ws st d n a l o = go (eqb d 0) refl st refl (endKnown (rec .h
     go false e Overlap j u p v q o = absurd (refused-not refusal.Overlap o)
     go false e Joins j false p v q o = absurd (refused-not refusal.NoEndToReach o)
     go false e Joins j true p false q o = absurd (refused-not refusal.PastEnd o)
-    go false e Joins j true p true q o = stands-joins rec ws st d n a (eqb-false d 0 e) (some p q (eqb-false d 0 e)) j ∙ o
+    go false e Joins j true p true q o = stands-joins rec ws st d n a (eqb-false d 0 e) (some (eqb-false d 0 e)) j ∙ o
 
 -- ---- one line
 
@@ -127,15 +125,15 @@ module _ (words : ℕ) (r : Reading) (ws : List ℕ) (long : length ws ≡ words
   running-few h = omega (arith, running-lines r ws h .1)
 
   appended-running : (d n : ℕ) (st : Standing) (s : Stage) → Running r ws → d ≤ largestSpan → appendOutcome (r .rec) ws st d n ≡ outcome.Accepted →
-      Running (record { stage = s; lines = r .lines + 1; rec = appended (r .rec) ws d n }) (canonical (length ws) (leftOf (r .rec) ws d n)) ×
-      (length (canonical (length ws) (leftOf (r .rec) ws d n)) ≡ words)
+      Running (record { stage = s; lines = r .lines + 1; rec = appended (r .rec) ws d n }) (canonical (length ws) (unspentOf (r .rec) ws d n)) ×
+      (length (canonical (length ws) (unspentOf (r .rec) ws d n)) ≡ words)
   appended-running d n st s h small o = (
     record {
       agreed = accepted-keeps (r .rec) ws st d n small o;
       some = omega arith;
       few = omega (arith, h .few, taken (r .rec) ws st d n o .counts);
     },
-    canonical-length (length ws) (leftOf (r .rec) ws d n) (taken (r .rec) ws st d n o .room) ∙ long,
+    canonical-length (length ws) (unspentOf (r .rec) ws d n) (taken (r .rec) ws st d n o .room) ∙ long,
   )
 
   s-sound : (st : Standing) (s : SFields) → Running r ws → s .d ≤ largestSpan → SoundFile words (takeS r ws st s)

@@ -1,7 +1,7 @@
 -- Files and timelines: what is written reads back as the same references under the same numbers; equal kept timelines have equal files; an accepted
 -- reading agrees; and reading, writing and reading again changes nothing more.
 use mathlib.Core.Path.{_≡_, refl, sym, ap, ap₂, subst, subst⁻¹, _∙_}
-use mathlib.Core.Bool.{Bool, true, false, not, _&&_, and-eq-true-iff, true≢false}
+use mathlib.Core.Bool.{Bool, true, false, not, and-eq-true-iff, true≢false, _&&_}
 use mathlib.Core.List.{List, [], _∷_, _++_}
 use Prim.Native.Nat.{ℕ, zero, suc, _+_, _/_, _^_, _≤_}
 use native.Mathlib.Omega.{arith}
@@ -17,7 +17,7 @@ use Rattle.window.proofs.Spending.{passed-later}
 use Rattle.runs.specs.declared.Run.{Run}
 use Rattle.runs.specs.Words.{runsOf, repeated, referencesOf, capacity}
 use Rattle.runs.specs.Shape.{runsShaped}
-use Rattle.runs.specs.Joining.{lastEnd}
+use Rattle.runs.specs.Ends.{lastEnd}
 use Rattle.runs.specs.Encoding.{tableOf, canonical}
 use Rattle.runs.proofs.Opening.{referencesIn, repeated-length, runs-length}
 use Rattle.runs.proofs.Encoded.{leads, encoded}
@@ -29,28 +29,30 @@ use Rattle.agreement.proofs.Agreeing.{Agreeing, agreeing}
 use Rattle.keeping.specs.declared.Outcome.the-variants as outcome
 use Rattle.keeping.specs.Keeping.{wordsBy}
 use Rattle.keeping.proofs.Outcomes.{refused-not}
+use Rattle.frames.specs.Fields.{allOnes}
 use Rattle.frames.specs.declared.Frame.{Frame}
 use Rattle.frames.specs.declared.Frame.the-variants.{Head as HeadFrame, End}
+use Rattle.frames.specs.Language.{AllFit}
 use Rattle.frames.specs.Frames.{Fits}
 use Rattle.file.specs.declared.Stage.{Stage}
 use Rattle.file.specs.declared.Stage.the-variants.{Nothing, Headed, Open, Filled, Ended, Refused}
 use Rattle.file.specs.Lines.{restOf}
-use Rattle.file.specs.Judging.{File, absent, begun, readLines, stopOutcome, readOutcome, answeredBy, readAnswer, zeroed, readTable}
-use Rattle.file.specs.Writing.{numbered, laterFrames, sFrames, bytesOf, fileOf, keptHead, fileFor, readBack}
+use Rattle.file.specs.Judging.{File, begun, readLines, stopOutcome, readOutcome, answeredBy, readAnswer, zeroed, readTable}
+use Rattle.file.specs.Writing.{withFirst, laterFrames, sFrames, bytesOf, fileOf, keptHead, fileFor, readBack}
 use Rattle.file.specs.Sound.{Sound}
 use Rattle.file.proofs.Output.{s-fits}
 use Rattle.file.proofs.Whole.{kept-few, head-fits, end-fits}
 use Rattle.file.proofs.Again.{recordOf, Takeable}
-use Rattle.file.proofs.Back.{AllFit, lines-of-frames, rest-of-frames, frames-taken}
+use Rattle.file.proofs.Back.{lines-of-frames, rest-of-frames, frames-taken}
 use Rattle.file.proofs.Sounding.{read-sound}
 
 -- ---- the number of the first changes no rule of time
 
-same-passed : (h : Head) (n e c : ℕ) → passed (numbered h n) e c ≡ passed h e c
+same-passed : (h : Head) (n e c : ℕ) → passed (withFirst h n) e c ≡ passed h e c
 unfolding place moment periodEnd lowEdge
 same-passed h n e c = refl
 
-same-before : (h : Head) (n k : ℕ) → beforeEnd (numbered h n) k ≡ beforeEnd h k
+same-before : (h : Head) (n k : ℕ) → beforeEnd (withFirst h n) k ≡ beforeEnd h k
 unfolding place periodEnd
 same-before h n k = refl
 
@@ -60,7 +62,7 @@ every-as t u f [] e = refl
 every-as t u f (r ∷ rs) e = let b = and-eq-true-iff (t r) (every t rs) .0 e in ap₂ _&&_ (f r (b .0)) (every-as t u f rs (b .1))
 
 -- what is not spent at a clock is not spent at clock 0
-coming-first : (h : Head) (n c : ℕ) (r : Reference) → not (passed h (endOf r) c) ≡ true → not (passed (numbered h n) (endOf r) 0) ≡ true
+coming-first : (h : Head) (n c : ℕ) (r : Reference) → not (passed h (endOf r) c) ≡ true → not (passed (withFirst h n) (endOf r) 0) ≡ true
 coming-first h n c r e = ap not (same-passed h n (endOf r) 0) ∙ go (passed h (endOf r) 0) refl
   where
     go : (t : Bool) → passed h (endOf r) 0 ≡ t → not t ≡ true
@@ -76,7 +78,7 @@ later-fit (r ∷ rs) fs s n a =
     let l = leads r rs s in
     let many = length-append (referencesIn r) (referencesOf rs) in
     let here = repeated-length (r .start .0) (r .span .0) (r .count) in
-    (s-fits absent r (omega arith) (l .short) (omega arith), later-fit rs fs (l .rest) (omega arith) a)
+    (s-fits allOnes r (omega arith) (l .short) (omega arith), later-fit rs fs (l .rest) (omega arith) a)
 
 all-fit : (r : Run) (rs : List Run) (fs : List Frame) → runsShaped (r ∷ rs) ≡ true → length (referencesOf (r ∷ rs)) ≤ 2 ^ 31 → AllFit fs → AllFit (sFrames (r ∷ rs) ++ fs)
 unfolding sFrames referencesOf
@@ -279,4 +281,4 @@ module _ (bytes came : List ℕ) (o : readOutcome bytes came ≡ outcome.Accepte
 
 -- a record that was read back and its table have the file that they were read from
 pub file-again : (rec : Record) (ws : List ℕ) → fileFor (readBack rec ws) ws ≡ fileFor rec ws
-file-again rec ws = ap (λ (n : ℕ). fileOf (numbered (rec .head) n) (kept rec ws)) (omega arith)
+file-again rec ws = ap (λ (n : ℕ). fileOf (withFirst (rec .head) n) (kept rec ws)) (omega arith)

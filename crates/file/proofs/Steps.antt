@@ -24,26 +24,27 @@ use Rattle.keeping.specs.declared.Outcome.{Outcome}
 use Rattle.keeping.specs.declared.Outcome.the-variants as outcome
 use Rattle.keeping.specs.declared.Changed.{Changed}
 use Rattle.keeping.specs.Keeping.{changedBy, wordsBy}
-use Rattle.keeping.specs.Joined.{leftOf, appended}
+use Rattle.keeping.specs.Append.{unspentOf, appended}
 use Rattle.timeline.specs.Opening.{freshRecord, zeroRecord}
+use Rattle.frames.specs.Fields.{allOnes}
 use Rattle.file.specs.declared.Stage.{Stage}
 use Rattle.file.specs.declared.Stage.the-variants.{Headed, Ended, Refused}
 use Rattle.file.specs.declared.Reading.{Reading}
-use Rattle.file.specs.Judging.{File, settledReading, refused, taken, settled, absent, firstTick, laterStanding, appendedBy, takeHead, sLines, takeEnd}
+use Rattle.file.specs.Judging.{File, settledReading, refused, taken, settled, firstTick, laterStanding, appendedBy, takeHead, sLines, takeEnd}
 
 -- ---- an absent t
 
-pub tick-absent : (t : WideTick) → t .0 ≡ absent → record { 0 = 0 } ≡ firstTick t
-tick-absent t e = sym (ap (λ b. cond b (record { 0 = 0 }) t) (eq-eqb (t .0) absent e))
+pub tick-absent : (t : WideTick) → t .0 ≡ allOnes → record { 0 = 0 } ≡ firstTick t
+tick-absent t e = sym (ap (λ b. cond b (record { 0 = 0 }) t) (eq-eqb (t .0) allOnes e))
 
-pub tick-there : (t : WideTick) → (t .0 ≡ absent → ⊥) → t ≡ firstTick t
-tick-there t n = sym (ap (λ b. cond b (record { 0 = 0 }) t) (ne-eqb (t .0) absent n))
+pub tick-there : (t : WideTick) → (t .0 ≡ allOnes → ⊥) → t ≡ firstTick t
+tick-there t n = sym (ap (λ b. cond b (record { 0 = 0 }) t) (ne-eqb (t .0) allOnes n))
 
-pub standing-absent : (t : WideTick) (next : Tick) → t .0 ≡ absent → Joins ≡ laterStanding t next
-standing-absent t next e = sym (ap (λ b. cond b Joins (tickStanding t next)) (eq-eqb (t .0) absent e))
+pub standing-absent : (t : WideTick) (next : Tick) → t .0 ≡ allOnes → Joins ≡ laterStanding t next
+standing-absent t next e = sym (ap (λ b. cond b Joins (tickStanding t next)) (eq-eqb (t .0) allOnes e))
 
-pub standing-there : (t : WideTick) (next : Tick) → (t .0 ≡ absent → ⊥) → (x : Standing) → x ≡ tickStanding t next → x ≡ laterStanding t next
-standing-there t next n x e = e ∙ sym (ap (λ b. cond b Joins (tickStanding t next)) (ne-eqb (t .0) absent n))
+pub standing-there : (t : WideTick) (next : Tick) → (t .0 ≡ allOnes → ⊥) → (x : Standing) → x ≡ tickStanding t next → x ≡ laterStanding t next
+standing-there t next n x e = e ∙ sym (ap (λ b. cond b Joins (tickStanding t next)) (ne-eqb (t .0) allOnes n))
 
 -- ---- by an outcome
 
@@ -80,11 +81,11 @@ module _ (r : Reading) (ws : List ℕ) (why : Refusal) (x : Reading) (k : x ≡ 
 -- what was appended, by the outcome of the append
 pub appended-by : (o other : Outcome) (s : Stage) (r : Reading) (ws : List ℕ) (d n m : ℕ) → o ≡ other → n ≡ m →
     (c : Changed) → c ≡ changedBy other (appended (r .rec) ws d n) (r .rec) →
-    (vs : List ℕ) → vs ≡ wordsBy other (canonical (length ws) (leftOf (r .rec) ws d n)) ws →
+    (vs : List ℕ) → vs ≡ wordsBy other (canonical (length ws) (unspentOf (r .rec) ws d n)) ws →
     (x : Reading) → x ≡ settledReading (c .outcome) s r (c .rec) →
     _≡_ {A = File} (record { reading = x; words = vs }) (appendedBy o s r ws d m)
 appended-by o other s r ws d n m e l c k vs v x j =
-    both x (settledReading other s r (appended (r .rec) ws d n)) vs (wordsBy other (canonical (length ws) (leftOf (r .rec) ws d n)) ws)
+    both x (settledReading other s r (appended (r .rec) ws d n)) vs (wordsBy other (canonical (length ws) (unspentOf (r .rec) ws d n)) ws)
     (j ∙ settles other s r (appended (r .rec) ws d n) (r .rec) c k) v ∙
     ap₂ (λ y i. appendedBy y s r ws d i) (sym e) l
 

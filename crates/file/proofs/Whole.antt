@@ -25,13 +25,13 @@ use Rattle.agreement.specs.declared.Record.{Record}
 use Rattle.agreement.specs.declared.refusal.Refusal.the-variants.{Disagreement, NothingKept, ShortOutput}
 use Rattle.agreement.specs.Agreement.{kept, agrees}
 use Rattle.agreement.proofs.Agreeing.{Agreeing, agreeing}
+use Rattle.frames.specs.Fields.{allOnes}
 use Rattle.frames.specs.declared.Frame.the-variants.{Head as HeadFrame, End}
 use Rattle.frames.specs.Frames.{Fits, lineWidths, lineLength, kindOf, lineOf, endedLine, Written as WrittenLine}
 use Rattle.frames.proofs.Lines.{length-ended}
 use Rattle.frames.proofs.Rows.{length-fields}
 use Rattle.file.specs.declared.WriteAnswer.{WriteAnswer}
 use Rattle.file.specs.declared.WriteAnswer.the-variants.{Written, Refused}
-use Rattle.file.specs.Judging.{absent}
 use Rattle.file.specs.Writing.{sFrame, laterFrames, sFrames, bytesOf, fileOf, keptHead, fileFor, writeAnswer, outputBy}
 use Rattle.file.proofs.Output.{tail-put, bytes-append, runs-few}
 
@@ -47,7 +47,7 @@ later-long : (rs : List Run) → length (bytesOf (laterFrames rs)) ≡ 35 * leng
 unfolding bytesOf laterFrames
 later-long [] = refl
 later-long (r ∷ rs) =
-    omega (arith, length-append (endedLine (sFrame absent r)) (bytesOf (laterFrames rs)), s-long absent r, later-long rs)
+    omega (arith, length-append (endedLine (sFrame allOnes r)) (bytesOf (laterFrames rs)), s-long allOnes r, later-long rs)
 
 runs-long : (rs : List Run) → length (bytesOf (sFrames rs)) ≡ 35 * length rs
 unfolding bytesOf sFrames

@@ -2,7 +2,7 @@
 -- line is refused with 16 where it is no frame of a file, then with 17 where its kind or its count may not stand here, then by its fields:
 -- reading is opening plus appends. Paper: The file; Refusal numbers, and the order below the table.
 use Prim.Native.Nat.{ℕ, _+_, _-_, _^_}
-use mathlib.Core.Bool.{cond}
+use mathlib.Core.Bool.{Bool, cond}
 use mathlib.Core.List.{List, [], _∷_}
 use lib.Dec.{eqb, ltb}
 use lib.ListN.{length, replicate}
@@ -22,12 +22,13 @@ use Rattle.agreement.specs.declared.refusal.Refusal.the-variants.{OverLimit, No
 use Rattle.keeping.specs.declared.Outcome.{Outcome}
 use Rattle.keeping.specs.declared.Outcome.the-variants as outcome
 use Rattle.keeping.specs.Keeping.{wordsBy}
-use Rattle.keeping.specs.Joined.{leftOf, fitOutcome, appended}
+use Rattle.keeping.specs.Append.{unspentOf, fitOutcome, appended}
 use Rattle.timeline.specs.Opening.{freshRecord, zeroRecord, openOutcome}
-use Rattle.timeline.specs.Appending.{joining, appendOutcome}
+use Rattle.timeline.specs.Appending.{byStanding, appendOutcome}
 use Rattle.frames.specs.declared.Frame.{Frame}
 use Rattle.frames.specs.declared.Frame.the-variants.{Head as HeadFrame, S, End, Clock, Bad}
 use Rattle.frames.specs.declared.SFields.{SFields}
+use Rattle.frames.specs.Fields.{allOnes}
 use Rattle.frames.specs.Frames.{frameOf}
 use Rattle.file.specs.declared.Stage.{Stage}
 use Rattle.file.specs.declared.Stage.the-variants.{Nothing, Headed, Open, Filled, Ended, Refused}
@@ -68,16 +69,16 @@ misplaced Bad = BadLine
 -- ---- the S lines
 
 -- a t of all ones is absent
-abbrev pub absent : ℕ
-absent = 2 ^ 64 - 1
+abbrev pub absent : WideTick → Bool
+absent t = eqb (t .0) allOnes
 
 -- the first S opens the timeline at its own t, or at tick 0
 abbrev pub firstTick : WideTick → WideTick
-firstTick t = cond (eqb (t .0) absent) (record { 0 = 0 }) t
+firstTick t = cond (absent t) (record { 0 = 0 }) t
 
 -- a later one joins where t is absent
 abbrev pub laterStanding : WideTick → Tick → Standing
-laterStanding t next = cond (eqb (t .0) absent) Joins (tickStanding t next)
+laterStanding t next = cond (absent t) Joins (tickStanding t next)
 
 -- r is signed: from 2^31 on it is negative
 abbrev pub firstNegative : ℕ
@@ -87,14 +88,14 @@ firstNegative = 2 ^ 31
 unfoldable pub reachOutcome : Record → List ℕ → Standing → ℕ → ℕ → Outcome
 reachOutcome rec ws st d n =
     cond (eqb d 0) (outcome.Refused NothingGiven)
-    (joining st
+    (byStanding st
     (cond (endKnown (rec .head))
     (cond (beforeEnd (rec .head) (rec .next .0)) (fitOutcome rec ws d n) (outcome.Refused PastEnd))
     (outcome.Refused NoEndToReach)))
 
 -- n references of d ticks are appended, if the outcome is so
 abbrev pub appendedBy : Outcome → Stage → Reading → List ℕ → ℕ → ℕ → File
-appendedBy o s r ws d n = settled o s r (appended (r .rec) ws d n) (canonical (length ws) (leftOf (r .rec) ws d n)) ws
+appendedBy o s r ws d n = settled o s r (appended (r .rec) ws d n) (canonical (length ws) (unspentOf (r .rec) ws d n)) ws
 
 -- a negative r is as many references as reach the period end
 unfoldable pub reachesBy : Reading → List ℕ → Standing → ℕ → File

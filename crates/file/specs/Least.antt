@@ -18,6 +18,6 @@ enough h = h .duration .0 * h .timescale .0 + h .offset .0 * 1000
 abbrev pub reaching : Head → ℕ → ℕ → ℕ → Bool
 reaching h s d n = reachesEnd h (s + d * n)
 
--- the least count of them that does. proofs/Counts.antt has the law that it is the only least count
+-- the least count, one at least, that does: `LeastCount` of `window` holds of it and of no other (`Demand2`: `least-count`)
 unfoldable pub leastCount : Head → ℕ → ℕ → ℕ
-leastCount h s d = leastFrom (reaching h s d) (enough h) 0
+leastCount h s d = leastFrom (reaching h s d) (enough h) 1

@@ -12,14 +12,15 @@ use Rattle.keeping.specs.declared.Outcome.the-variants.{Refused}
 use Rattle.timeline.specs.Opening.{zeroRecord}
 use Rattle.frames.specs.Fields.{fieldDigits}
 use Rattle.frames.specs.Frames.{lineOf, endedLine}
-use Rattle.frames.specs.Worked.{headB, bytesOf as ascii}
+use Rattle.hex.specs.Ascii.{ascii}
+use Rattle.frames.specs.Worked.{fieldsB}
 use Rattle.file.specs.Lines.{linesFrom, restFrom}
 use Rattle.file.specs.Judging.{takeLines, readLines, readOutcome, readAnswer}
 use Rattle.file.specs.Writing.{laterFrames, sFrames, bytesOf, fileOf}
 
 pub record CaseB : Type 0 where
   pub file :
-      fileOf (headOf (headB 3)) (repeated 8000 4000 3) ≡
+      fileOf (headOf (fieldsB 3)) (repeated 8000 4000 3) ≡
       ascii "01000003e8000000000000000000000000000000000000000000000000000000000000271000000003" ++
       10 ∷
       ascii "020000000000001f4000000fa000000002" ++

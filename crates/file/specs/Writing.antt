@@ -17,14 +17,14 @@ use Rattle.agreement.specs.Agreement.{kept, agrees}
 use Rattle.agreement.specs.Numbers.{refusalNumber}
 use Rattle.frames.specs.declared.Frame.{Frame}
 use Rattle.frames.specs.declared.Frame.the-variants.{Head as HeadFrame, S, End}
+use Rattle.frames.specs.Fields.{allOnes}
 use Rattle.frames.specs.Frames.{endedLine}
 use Rattle.file.specs.declared.WriteAnswer.{WriteAnswer}
 use Rattle.file.specs.declared.WriteAnswer.the-variants.{Written, Refused}
-use Rattle.file.specs.Judging.{absent}
 
 -- a head whose first reference has another number
-abbrev pub numbered : Head → ℕ → Head
-numbered h n =
+abbrev pub withFirst : Head → ℕ → Head
+withFirst h n =
     record { timescale = h .timescale; offset = h .offset; start = h .start; duration = h .duration; depth = h .depth; first = record { 0 = n } }
 
 -- the S line of a run: r is one less than its count
@@ -33,7 +33,7 @@ sFrame t r = S (record { t = record { 0 = t }; d = r .span .0; r = r .count - 1 
 
 unfoldable pub laterFrames : List Run → List Frame
 laterFrames [] = []
-laterFrames (r ∷ rs) = sFrame absent r ∷ laterFrames rs
+laterFrames (r ∷ rs) = sFrame allOnes r ∷ laterFrames rs
 
 unfoldable pub sFrames : List Run → List Frame
 sFrames [] = []
@@ -50,7 +50,7 @@ fileOf h rs = bytesOf (HeadFrame (fieldsOf h) ∷ sFrames (encode rs) ++ End (ru
 
 -- the file of what record and table keep: the first kept reference has the first number plus those dropped
 abbrev pub keptHead : Record → Head
-keptHead rec = numbered (rec .head) (rec .head .first .0 + rec .dropped)
+keptHead rec = withFirst (rec .head) (rec .head .first .0 + rec .dropped)
 
 abbrev pub fileFor : Record → List ℕ → List ℕ
 fileFor rec ws = fileOf (keptHead rec) (kept rec ws)

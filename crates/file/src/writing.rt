@@ -9,7 +9,7 @@ ghost use Rattle.units.specs.Limits.{largestNumber};
 ghost use Rattle.runs.specs.Words.{runAt, runsOf, keptIn};
 ghost use Rattle.runs.specs.Shape.{shaped};
 ghost use Rattle.agreement.specs.Agreement.{agrees};
-ghost use Rattle.file.specs.Judging.{absent};
+ghost use Rattle.frames.specs.Fields.{allOnes};
 ghost use Rattle.file.specs.Writing.{keptHead, sFrame, sFrames, bytesOf, fileFor, writeAnswer, outputBy};
 use crate::ABSENT;
 use crate::WriteAnswer;
@@ -40,7 +40,7 @@ fn kept_head(rec: Record) -> Head
 // Inner: callers show that the run is there and counts. The S line of a run, with t on the first.
 fn s_frame(table: &[u64], i: usize) -> Frame
     requires { ⌜ (i * 3 + 2 < length (now table)) × (1 ≤ runAt (now table) (i * 3) .count) ⌝ }
-    ensures { λ r. ⌜ r ≡ sFrame (cond (eqb i 0) (runAt (now (table .entry)) (i * 3) .start .0) absent) (runAt (now (table .entry)) (i * 3)) ⌝ }
+    ensures { λ r. ⌜ r ≡ sFrame (cond (eqb i 0) (runAt (now (table .entry)) (i * 3) .start .0) allOnes) (runAt (now (table .entry)) (i * 3)) ⌝ }
 {
     let run = runs::table::run_at(table, i * 3);
     let d = run.span.0;

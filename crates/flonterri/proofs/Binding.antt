@@ -14,11 +14,10 @@ use Rattle.units.specs.Limits.{largestSpan, largestMillis, largestNumber, clock
 use Rattle.units.specs.Standing.{tickStanding, stampStanding}
 use Rattle.runs.specs.Words.{runsOf}
 use Rattle.agreement.specs.declared.Record.{Record}
-use Rattle.agreement.specs.declared.refusal.Refusal.{Refusal}
 use Rattle.agreement.specs.declared.refusal.Refusal.the-variants as refusal
 use Rattle.agreement.specs.Agreement.{kept, agrees}
-use Rattle.agreement.specs.Numbers.{refusalNumber}
 use Rattle.agreement.proofs.Agreeing.{agreeing}
+use Rattle.agreement.proofs.Numbers.{refusal-some}
 use Rattle.keeping.specs.declared.Outcome.{Outcome}
 use Rattle.keeping.specs.declared.Outcome.the-variants as outcome
 use Rattle.keeping.specs.Keeping.{outcomeNumber, changedBy, wordsBy}
@@ -42,31 +41,6 @@ use Rattle.flonterri.specs.Face.{wrongRecord, wrongLength, guarded, Chan
 use Rattle.flonterri.specs.Binding.{agreed, LeavesAgreed, Binding}
 use Rattle.flonterri.proofs.Words.{record-words}
 use Rattle.flonterri.proofs.Lengths.{both-right, behind}
-
--- no refusal has the number 0
-pub refusal-some : (why : Refusal) → refusalNumber why ≡ 0 → ⊥
-refusal-some why = eqb-false (refusalNumber why) 0 (go why)
-  where
-    go : (why : Refusal) → eqb (refusalNumber why) 0 ≡ false
-    go refusal.OverLimit = refl
-    go refusal.Disagreement = refl
-    go refusal.NothingGiven = refl
-    go refusal.Gap = refl
-    go refusal.Overlap = refl
-    go refusal.TickLimit = refl
-    go refusal.CountLimit = refl
-    go refusal.PastEnd = refl
-    go refusal.NoRunLeft = refl
-    go refusal.ClockLimit = refl
-    go refusal.EarlierClock = refl
-    go refusal.NothingKept = refl
-    go refusal.NotKept = refl
-    go refusal.EmptySpan = refl
-    go refusal.ShortOutput = refl
-    go refusal.BadLine = refl
-    go refusal.BadOrder = refl
-    go refusal.NoEndToReach = refl
-    go refusal.EndUnknown = refl
 
 -- ---- the calls that change
 

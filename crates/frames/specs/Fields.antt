@@ -1,7 +1,7 @@
 -- The fields of a line stand one after another, each over its own width in bytes, as big-endian hexadecimal digits, two to a
 -- byte. Paper: The file.
 use mathlib.Core.List.{List, [], _∷_, _++_}
-use Prim.Native.Nat.{ℕ, _+_, _*_, _^_, _≤_, _<_}
+use Prim.Native.Nat.{ℕ, _+_, _-_, _*_, _^_, _≤_, _<_}
 use lib.ListN.{take, drop}
 use Rattle.hex.specs.Digits.{numberOf, digitsOf}
 
@@ -14,6 +14,10 @@ digitCount (w ∷ ws) = 2 * w + digitCount ws
 abbrev pub Narrow : List ℕ → Type 0
 Narrow [] = Unit {0}
 Narrow (w ∷ ws) = (w ≤ 8) × Narrow ws
+
+-- a field of eight bytes whose bits are all ones: an S line has it for a t that is absent, a clock line for the whole period
+abbrev pub allOnes : ℕ
+allOnes = 2 ^ 64 - 1
 
 -- the digits of values, each over its width
 unfoldable pub fieldDigits : List ℕ → List ℕ → List ℕ

@@ -3,13 +3,18 @@
 use mathlib.Core.Path.{_≡_}
 use mathlib.Core.Logic.{_↔_}
 use mathlib.Core.Bool.{true}
-use mathlib.Core.List.{List}
+use mathlib.Core.List.{List, [], _∷_}
 use Prim.Native.Nat.{ℕ, _<_}
 use lib.ListN.{length, getD}
 use Rattle.hex.specs.Digits.{areDigits}
 use Rattle.frames.specs.Frames.{lineLength, longestLine, kindOf, isFrame, Fits, lineOf, frameOf}
 use Rattle.frames.specs.declared.Frame.{Frame}
 use Rattle.frames.specs.declared.Frame.the-variants.{Bad}
+
+-- every frame of a list can be written, each field over its width
+abbrev pub AllFit : List Frame → Type 0
+AllFit [] = Unit {0}
+AllFit (f ∷ fs) = Fits f × AllFit fs
 
 -- proved by `language` of proofs/Lines.antt
 pub record Language : Type 0 where

@@ -1,35 +1,28 @@
 -- The whole file of case B after its trim at 18,000, line by line: each line is the frame that the paper means by it.
 -- Paper: The file; By hand, B.
 use mathlib.Core.Path.{_≡_, refl}
-use mathlib.Core.List.{List, [], _∷_}
 use Prim.Native.Nat.{ℕ}
-use Prim.Native.Char.{code}
-use Prim.Native.String as text
+use Rattle.hex.specs.Ascii.{ascii}
 use Rattle.hex.specs.Digits.{between, isDigit, valueOf, areDigits, numberOf}
 use Rattle.window.specs.declared.HeadFields.{HeadFields}
 use Rattle.frames.specs.Fields.{fieldValues}
 use Rattle.frames.specs.Frames.{lineLength, frameAs, frameOf}
 use Rattle.frames.specs.declared.Frame.the-variants.{Head as HeadFrame, S, End}
 
--- the bytes of a text in ASCII
-unfoldable pub bytesOf : text.String → List ℕ
-bytesOf text.[] = []
-bytesOf (text._∷_ c cs) = code c ∷ bytesOf cs
-
 -- the head fields of case B, where the first reference has number n
-abbrev pub headB : ℕ → HeadFields
-headB n = record { timescale = 1000; offset = 0; start = 0; duration = 0; depth = 10_000; first = n }
+abbrev pub fieldsB : ℕ → HeadFields
+fieldsB n = record { timescale = 1000; offset = 0; start = 0; duration = 0; depth = 10_000; first = n }
 
 pub record CaseB : Type 0 where
   pub head-length : lineLength 1 ≡ 82
   pub head :
-      frameOf (bytesOf "01000003e8000000000000000000000000000000000000000000000000000000000000271000000003") ≡
-      HeadFrame (headB 3)
+      frameOf (ascii "01000003e8000000000000000000000000000000000000000000000000000000000000271000000003") ≡
+      HeadFrame (fieldsB 3)
   pub s :
-      frameOf (bytesOf "020000000000001f4000000fa000000002") ≡
+      frameOf (ascii "020000000000001f4000000fa000000002") ≡
       S (record { t = record { 0 = 8000 }; d = 4000; r = 2 })
-  pub end : frameOf (bytesOf "0300000001") ≡ End 1
+  pub end : frameOf (ascii "0300000001") ≡ End 1
 
 pub case-b : CaseB
-unfolding frameOf frameAs fieldValues areDigits numberOf valueOf isDigit between bytesOf
+unfolding frameOf frameAs fieldValues areDigits numberOf valueOf isDigit between ascii
 case-b = record { head-length = refl; head = refl; s = refl; end = refl }

@@ -1,4 +1,4 @@
--- An append that joins: what is kept stays, and of what is given only the first can be gone at once.
+-- An append that joins: what is kept stays, and of what is given only the first can be spent at once.
 use mathlib.Core.Path.{_≡_, sym, ap, ap₂, subst, subst⁻¹, _∙_}
 use mathlib.Core.Bool.{Bool, true, false, cond, not, and-eq-true-iff}
 use mathlib.Core.List.{List}
@@ -23,7 +23,7 @@ use Rattle.runs.specs.Encoding.{runsFor, canonical}
 use Rattle.runs.specs.Steps.{keptWith, Storable}
 use Rattle.runs.proofs.Opening.{repeated-length}
 use Rattle.runs.proofs.Encoded.{span-limits, ref}
-use Rattle.runs.proofs.Joins.{repeated-join}
+use Rattle.runs.proofs.EndToStart.{repeated-join}
 use Rattle.runs.proofs.Tables.{used-fits, canonical-is}
 use Rattle.agreement.specs.declared.Record.{Record}
 use Rattle.agreement.specs.declared.refusal.Refusal.the-variants as refusal
@@ -33,9 +33,10 @@ use Rattle.agreement.proofs.Scanning.{last-repeated}
 use Rattle.agreement.proofs.Judging.{all-begun, begun}
 use Rattle.agreement.proofs.Agreeing.{Agreeing, agreeing}
 use Rattle.keeping.specs.declared.Outcome.the-variants.{Accepted, Refused}
-use Rattle.keeping.specs.Keeping.{unspent, goneOf, roomFor}
-use Rattle.keeping.specs.Joined.{Fitting, given, leftOf, roomOutcome, appended}
-use Rattle.keeping.proofs.Unspent.{gone-most, unspent-is}
+use Rattle.keeping.specs.Keeping.{unspent}
+use Rattle.keeping.specs.Steps.{countPassed, roomFor, Fitting}
+use Rattle.keeping.specs.Append.{given, unspentOf, roomOutcome, appended}
+use Rattle.keeping.proofs.Unspent.{count-most, unspent-is}
 use Rattle.keeping.proofs.Stored.{none-left, same-runs, given-left, left-out, split, storable, left-with, room-is}
 
 -- ---- the limits
@@ -76,74 +77,74 @@ module _ (rec : Record) (ws : List ℕ) (span : Span) (n : ℕ) (fit : Fitting r
       leb-true (rec .accepted + n) (2 ^ 31)
       (and-eq-true-iff (leb (rec .accepted + n) (2 ^ 31)) (leb (rec .head .first .0 + (rec .accepted + n)) largestNumber) .0 (fit .counts) .0)
 
-  module _ (p : Passed) (w : EndsPassed (rec .head) (rec .clock .0) p) (gone : ℕ) (k : gone ≡ goneOf p (repeated (rec .next .0) (span .0) n)) where
-    few : gone ≤ n
+  module _ (p : Passed) (w : EndsPassed (rec .head) (rec .clock .0) p) (spent : ℕ) (k : spent ≡ countPassed p (repeated (rec .next .0) (span .0) n)) where
+    few : spent ≤ n
     few =
         subst⁻¹ (λ (m : ℕ). m ≤ n) k
-        (subst (λ (m : ℕ). goneOf p (repeated (rec .next .0) (span .0) n) ≤ m) (repeated-length (rec .next .0) (span .0) n)
-        (gone-most p (repeated (rec .next .0) (span .0) n)))
+        (subst (λ (m : ℕ). countPassed p (repeated (rec .next .0) (span .0) n) ≤ m) (repeated-length (rec .next .0) (span .0) n)
+        (count-most p (repeated (rec .next .0) (span .0) n)))
 
-    pub keep-dropped : rec .dropped + gone ≤ 2 ^ 31
+    pub keep-dropped : rec .dropped + spent ≤ 2 ^ 31
     keep-dropped = omega (arith, few, keep-counts, facts .held .dropped)
 
-    behind : unspent (rec .head) (rec .clock .0) (given rec (span .0) n) ≡ drop gone (given rec (span .0) n)
+    behind : unspent (rec .head) (rec .clock .0) (given rec (span .0) n) ≡ drop spent (given rec (span .0) n)
     behind =
         unspent-is (rec .head) (rec .clock .0) p w (rec .next .0) (given rec (span .0) n) (repeated-join (rec .next .0) (span .0) n) ∙
         ap (λ (m : ℕ). drop m (given rec (span .0) n)) (sym k)
 
     -- the record, by the runs used then
-    pub keep-record : (used : ℕ) → used ≡ runsFor (leftOf rec ws (span .0) n) → (r : Record) →
-        r ≡ record { head = rec .head; accepted = rec .accepted + n; dropped = rec .dropped + gone; next = record { 0 = rec .next .0 + span .0 * n }; clock = rec .clock; used = used } →
+    pub keep-record : (used : ℕ) → used ≡ runsFor (unspentOf rec ws (span .0) n) → (r : Record) →
+        r ≡ record { head = rec .head; accepted = rec .accepted + n; dropped = rec .dropped + spent; next = record { 0 = rec .next .0 + span .0 * n }; clock = rec .clock; used = used } →
         r ≡ appended rec ws (span .0) n
     keep-record used u r e =
         e ∙
-        ap₂ (λ (d m : ℕ). record { head = rec .head; accepted = rec .accepted + n; dropped = rec .dropped + d; next = record { 0 = rec .next .0 + span .0 * n }; clock = rec .clock; used = m }) (left-out rec ws span n fit gone few behind) u
+        ap₂ (λ (d m : ℕ). record { head = rec .head; accepted = rec .accepted + n; dropped = rec .dropped + d; next = record { 0 = rec .next .0 + span .0 * n }; clock = rec .clock; used = m }) (left-out rec ws span n fit spent few behind) u
 
-    -- ---- all are gone
+    -- ---- all are spent
 
-    module _ (all : gone ≡ n) where
-      left-kept : leftOf rec ws (span .0) n ≡ kept rec ws
+    module _ (all : spent ≡ n) where
+      left-kept : unspentOf rec ws (span .0) n ≡ kept rec ws
       unfolding repeated
       left-kept =
-          let none : n - gone ≡ 0 = omega arith in
+          let none : n - spent ≡ 0 = omega arith in
           none-left rec ws span n fit
-          (given-left rec ws span n fit gone few behind ∙ ap (λ (m : ℕ). repeated (rec .next .0 + span .0 * gone) (span .0) m) none)
+          (given-left rec ws span n fit spent few behind ∙ ap (λ (m : ℕ). repeated (rec .next .0 + span .0 * spent) (span .0) m) none)
 
-      pub gone-used : rec .used ≡ runsFor (leftOf rec ws (span .0) n)
-      gone-used = sym (same-runs rec ws span n fit left-kept)
+      pub spent-used : rec .used ≡ runsFor (unspentOf rec ws (span .0) n)
+      spent-used = sym (same-runs rec ws span n fit left-kept)
 
-      pub gone-room : roomOutcome rec ws (span .0) n ≡ Accepted
+      pub spent-room : roomOutcome rec ws (span .0) n ≡ Accepted
       unfolding roomOutcome
-      gone-room =
-          ap (λ (m : ℕ). cond (leb m (capacity ws)) Accepted (Refused refusal.NoRunLeft)) (sym gone-used) ∙
+      spent-room =
+          ap (λ (m : ℕ). cond (leb m (capacity ws)) Accepted (Refused refusal.NoRunLeft)) (sym spent-used) ∙
           ap (λ t. cond t Accepted (Refused refusal.NoRunLeft)) (le-leb (rec .used) (capacity ws) (used-fits (rec .used) ws (facts .table)))
 
-      pub gone-table : ws ≡ canonical (length ws) (leftOf rec ws (span .0) n)
-      gone-table = canonical-is (rec .used) ws (facts .table) ∙ ap (canonical (length ws)) (sym left-kept)
+      pub spent-table : ws ≡ canonical (length ws) (unspentOf rec ws (span .0) n)
+      spent-table = canonical-is (rec .used) ws (facts .table) ∙ ap (canonical (length ws)) (sym left-kept)
 
     -- ---- some are stored
 
-    module _ (some : gone ≡ n → ⊥) where
-      pub store-some : gone ≤ n
+    module _ (some : spent ≡ n → ⊥) where
+      pub store-some : spent ≤ n
       store-some = few
 
-      parts : span .0 * gone + span .0 * (n - gone) ≡ span .0 * n
-      parts = split rec ws span n fit gone few behind some
+      parts : span .0 * spent + span .0 * (n - spent) ≡ span .0 * n
+      parts = split rec ws span n fit spent few behind some
 
-      pub store-product : Fits w64 (span .0 * gone)
+      pub store-product : Fits w64 (span .0 * spent)
       store-product = record { fits = omega (arith, parts, fit .ends) }
 
-      pub store-sum : Fits w64 (rec .next .0 + span .0 * gone)
+      pub store-sum : Fits w64 (rec .next .0 + span .0 * spent)
       store-sum = record { fits = omega (arith, parts, fit .ends) }
 
-      pub store-storable : Storable (rec .used) ws (record { 0 = rec .next .0 + span .0 * gone }) span (n - gone)
-      store-storable = storable rec ws span n fit gone few behind some
+      pub store-storable : Storable (rec .used) ws (record { 0 = rec .next .0 + span .0 * spent }) span (n - spent)
+      store-storable = storable rec ws span n fit spent few behind some
 
-      with-left : keptWith (rec .used) ws (record { 0 = rec .next .0 + span .0 * gone }) span (n - gone) ≡ leftOf rec ws (span .0) n
-      with-left = left-with rec ws span n fit gone few behind some
+      with-left : keptWith (rec .used) ws (record { 0 = rec .next .0 + span .0 * spent }) span (n - spent) ≡ unspentOf rec ws (span .0) n
+      with-left = left-with rec ws span n fit spent few behind some
 
-      is-room : leb (runsFor (leftOf rec ws (span .0) n)) (capacity ws) ≡ roomFor (rec .used) ws (span .0)
-      is-room = room-is rec ws span n fit gone few behind some
+      is-room : leb (runsFor (unspentOf rec ws (span .0) n)) (capacity ws) ≡ roomFor (rec .used) ws (span .0)
+      is-room = room-is rec ws span n fit spent few behind some
 
       module _ (t : Bool) (e : t ≡ roomFor (rec .used) ws (span .0)) where
         pub store-full : not t ≡ true → roomOutcome rec ws (span .0) n ≡ Refused refusal.NoRunLeft
@@ -151,18 +152,18 @@ module _ (rec : Record) (ws : List ℕ) (span : Span) (n : ℕ) (fit : Fitting r
         store-full m = sym (refused t _ _ _ (e ∙ sym is-room) m)
 
         module _ (m : not t ≡ false) where
-          has-room : leb (runsFor (leftOf rec ws (span .0) n)) (capacity ws) ≡ true
+          has-room : leb (runsFor (unspentOf rec ws (span .0) n)) (capacity ws) ≡ true
           has-room = told t _ (e ∙ sym is-room) m
 
           pub store-accepted : roomOutcome rec ws (span .0) n ≡ Accepted
           unfolding roomOutcome
           store-accepted = ap (λ b. cond b Accepted (Refused refusal.NoRunLeft)) has-room
 
-          pub store-room : runsFor (keptWith (rec .used) ws (record { 0 = rec .next .0 + span .0 * gone }) span (n - gone)) ≤ capacity ws
-          store-room = subst⁻¹ (λ rs. runsFor rs ≤ capacity ws) with-left (leb-true (runsFor (leftOf rec ws (span .0) n)) (capacity ws) has-room)
+          pub store-room : runsFor (keptWith (rec .used) ws (record { 0 = rec .next .0 + span .0 * spent }) span (n - spent)) ≤ capacity ws
+          store-room = subst⁻¹ (λ rs. runsFor rs ≤ capacity ws) with-left (leb-true (runsFor (unspentOf rec ws (span .0) n)) (capacity ws) has-room)
 
-          pub store-used : (used : ℕ) → used ≡ runsFor (keptWith (rec .used) ws (record { 0 = rec .next .0 + span .0 * gone }) span (n - gone)) → used ≡ runsFor (leftOf rec ws (span .0) n)
+          pub store-used : (used : ℕ) → used ≡ runsFor (keptWith (rec .used) ws (record { 0 = rec .next .0 + span .0 * spent }) span (n - spent)) → used ≡ runsFor (unspentOf rec ws (span .0) n)
           store-used used u = u ∙ ap runsFor with-left
 
-          pub store-table : (vs : List ℕ) → vs ≡ canonical (length ws) (keptWith (rec .used) ws (record { 0 = rec .next .0 + span .0 * gone }) span (n - gone)) → vs ≡ canonical (length ws) (leftOf rec ws (span .0) n)
+          pub store-table : (vs : List ℕ) → vs ≡ canonical (length ws) (keptWith (rec .used) ws (record { 0 = rec .next .0 + span .0 * spent }) span (n - spent)) → vs ≡ canonical (length ws) (unspentOf rec ws (span .0) n)
           store-table vs v = v ∙ ap (canonical (length ws)) with-left

@@ -20,7 +20,8 @@ use Rattle.agreement.specs.declared.refusal.Refusal.the-variants as refusal
 use Rattle.agreement.specs.Agreement.{every, countsHeld, agrees}
 use Rattle.agreement.proofs.Agreeing.{agreeing}
 use Rattle.keeping.specs.declared.Outcome.the-variants.{Refused}
-use Rattle.keeping.specs.Joined.{Fitting, given, roomOutcome, fitOutcome}
+use Rattle.keeping.specs.Append.{given, roomOutcome, fitOutcome}
+use Rattle.keeping.specs.Steps.{Fitting}
 
 module _ (rec : Record) (ws : List ℕ) (span : Span) (n : ℕ) (h : (agrees rec ws ≡ true) × (spanHeld span ≡ true) × (1 ≤ n)) where
   lasts : 1 ≤ span .0

@@ -1,6 +1,6 @@
 -- Agreement is kept: of joined references, what is not spent makes an agreeing table, and so does an append that joins.
 use mathlib.Core.Path.{_≡_, refl, ap, ap₂, subst⁻¹, _∙_}
-use mathlib.Core.Bool.{true, _&&_, and-eq-true-iff}
+use mathlib.Core.Bool.{true, and-eq-true-iff, _&&_}
 use mathlib.Core.List.{List, [], _∷_, _++_}
 use Prim.Native.Nat.{ℕ, zero, suc, _+_, _-_, _*_, _/_, _^_, _≤_}
 use native.Mathlib.Omega.{arith}
@@ -11,19 +11,20 @@ use Rattle.units.specs.declared.Span.{Span}
 use Rattle.units.specs.Limits.{largestNumber}
 use Rattle.window.specs.declared.Reference.{Reference}
 use Rattle.window.specs.Place.{beforeEnd}
-use Rattle.window.specs.References.{Joined, Each}
+use Rattle.window.specs.References.{EndToStart, Each}
 use Rattle.runs.specs.Words.{capacity}
 use Rattle.runs.specs.Encoding.{runsFor, canonical}
-use Rattle.runs.specs.Joining.{lastEnd, Within}
+use Rattle.runs.specs.Ends.{lastEnd, Within}
 use Rattle.runs.proofs.Opening.{repeated-length}
 use Rattle.runs.proofs.Encoded.{span-limits, runs-drop}
 use Rattle.runs.proofs.Tables.{canonical-kept, canonical-shaped}
-use Rattle.runs.proofs.Joins.{kept-join, kept-within, join-append, each-append, join-drop, each-drop, repeated-join, repeated-within, repeated-end, end-append}
+use Rattle.runs.proofs.EndToStart.{kept-join, kept-within, join-append, each-append, join-drop, each-drop, repeated-join, repeated-within, repeated-end, end-append}
 use Rattle.agreement.specs.declared.Record.{Record}
 use Rattle.agreement.specs.Agreement.{kept, every, recordHeld, keptRight, agrees}
 use Rattle.agreement.proofs.Judging.{record-facts, record-held}
 use Rattle.agreement.proofs.Agreeing.{Agreeing, agreeing, agrees-from}
-use Rattle.keeping.specs.Joined.{Fitting, given, allOf, leftOf, counting, appended}
+use Rattle.keeping.specs.Append.{given, allOf, unspentOf, counting, appended}
+use Rattle.keeping.specs.Steps.{Fitting}
 use Rattle.keeping.specs.Keeping.{unspent, keeping}
 use Rattle.keeping.proofs.Unspent.{unspent-few, unspent-suffix, unspent-coming, unspent-still, every-append}
 
@@ -41,7 +42,7 @@ last-drop t (suc n) (r ∷ rs) e = last-drop t n rs (last-behind t r rs e)
 
 -- ---- the generic step: of joined references that end at the next tick, keep what is not spent
 
-module _ (rec : Record) (words t : ℕ) (all : List Reference) (joined : Joined t all) (within : Each Within all)
+module _ (rec : Record) (words t : ℕ) (all : List Reference) (joined : EndToStart t all) (within : Each Within all)
     (ends : lastEnd (rec .next .0) all ≡ rec .next .0) (begun : every (λ r. beforeEnd (rec .head) (r .start .0)) all ≡ true)
     (total : rec .dropped + length all ≡ rec .accepted) where
   left : List Reference
@@ -50,9 +51,9 @@ module _ (rec : Record) (words t : ℕ) (all : List Reference) (joined : Joined 
   suffix : (n : ℕ) × (unspent (rec .head) (rec .clock .0) all ≡ drop n all)
   suffix = unspent-suffix (rec .head) (rec .clock .0) t all joined
 
-  left-joined : Joined (lastEnd t (take (suffix .0) all)) left
+  left-joined : EndToStart (lastEnd t (take (suffix .0) all)) left
   unfolding left
-  left-joined = subst⁻¹ (Joined (lastEnd t (take (suffix .0) all))) (suffix .1) (join-drop (suffix .0) t all joined)
+  left-joined = subst⁻¹ (EndToStart (lastEnd t (take (suffix .0) all))) (suffix .1) (join-drop (suffix .0) t all joined)
 
   left-within : Each Within left
   unfolding left
@@ -118,16 +119,16 @@ module _ (rec : Record) (ws : List ℕ) (span : Span) (n : ℕ) (fit : Fitting r
         numbers = leb-true (rec .head .first .0 + (rec .accepted + n)) largestNumber (k .1);
       })
 
-  joined-with : (s : ℕ) (rs : List Reference) → Joined s rs → lastEnd (rec .next .0) rs ≡ rec .next .0 → (t : ℕ) × Joined t (rs ++ given rec (span .0) n)
+  joined-with : (s : ℕ) (rs : List Reference) → EndToStart s rs → lastEnd (rec .next .0) rs ≡ rec .next .0 → (t : ℕ) × EndToStart t (rs ++ given rec (span .0) n)
   unfolding lastEnd
   joined-with s [] j e = (rec .next .0, repeated-join (rec .next .0) (span .0) n)
   joined-with s (r ∷ rs) j e = (
     s,
     join-append s (r ∷ rs) (given rec (span .0) n) j
-        (subst⁻¹ (λ (t : ℕ). Joined t (given rec (span .0) n)) e (repeated-join (rec .next .0) (span .0) n)),
+        (subst⁻¹ (λ (t : ℕ). EndToStart t (given rec (span .0) n)) e (repeated-join (rec .next .0) (span .0) n)),
   )
 
-  all-joined : (t : ℕ) × Joined t (allOf rec ws (span .0) n)
+  all-joined : (t : ℕ) × EndToStart t (allOf rec ws (span .0) n)
   all-joined = joined-with (getD ws 0 0) (kept rec ws) (kept-join (rec .used) ws (known .table)) (known .ends)
 
   all-within : Each Within (allOf rec ws (span .0) n)
@@ -154,7 +155,7 @@ module _ (rec : Record) (ws : List ℕ) (span : Span) (n : ℕ) (fit : Fitting r
         repeated-length (rec .next .0) (span .0) n,
       )
 
-  pub append-keeps : runsFor (leftOf rec ws (span .0) n) ≤ capacity ws → agrees (appended rec ws (span .0) n) (canonical (length ws) (leftOf rec ws (span .0) n)) ≡ true
+  pub append-keeps : runsFor (unspentOf rec ws (span .0) n) ≤ capacity ws → agrees (appended rec ws (span .0) n) (canonical (length ws) (unspentOf rec ws (span .0) n)) ≡ true
   append-keeps room =
       step-agrees (counting rec (span .0) n) (length ws) (all-joined .0) (allOf rec ws (span .0) n) (all-joined .1) all-within all-ends all-begun all-total
       new-held room

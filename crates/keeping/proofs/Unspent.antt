@@ -15,30 +15,31 @@ use Rattle.window.specs.declared.Passed.{Passed}
 use Rattle.window.specs.declared.Passed.the-variants.{All, Upto}
 use Rattle.window.specs.Window.{endOf, passed}
 use Rattle.window.specs.Ticks.{EndsPassed}
-use Rattle.window.specs.References.{Joined}
+use Rattle.window.specs.References.{EndToStart}
 use Rattle.runs.specs.Words.{repeated}
-use Rattle.runs.specs.Counting.{endedBy}
+use Rattle.runs.specs.Steps.{passedUpto}
 use Rattle.runs.proofs.Opening.{repeated-length}
-use Rattle.runs.proofs.Ends.{ended-most, none-ended}
+use Rattle.runs.proofs.Ends.{passed-most, none-upto}
 use Rattle.agreement.specs.Agreement.{every}
-use Rattle.keeping.specs.Keeping.{unspent, goneOf}
+use Rattle.keeping.specs.Keeping.{unspent}
+use Rattle.keeping.specs.Steps.{countPassed}
 use Rattle.agreement.proofs.Judging.{coming, none-passed}
 
--- ---- how many are gone, by what is passed
+-- ---- how many are spent, by what is passed
 
 module _ (p : Passed) (rs : List Reference) where
-  pub gone-all : p ≡ All → (n : ℕ) → n ≡ length rs → n ≡ goneOf p rs
-  gone-all e n k = k ∙ sym (ap (λ q. goneOf q rs) e)
+  pub count-all : p ≡ All → (n : ℕ) → n ≡ length rs → n ≡ countPassed p rs
+  count-all e n k = k ∙ sym (ap (λ q. countPassed q rs) e)
 
-  pub gone-upto : (t : ℕ) → p ≡ Upto (record { 0 = t }) → (n : ℕ) → n ≡ endedBy t rs → n ≡ goneOf p rs
-  gone-upto t e n k = k ∙ sym (ap (λ q. goneOf q rs) e)
+  pub count-upto : (t : ℕ) → p ≡ Upto (record { 0 = t }) → (n : ℕ) → n ≡ passedUpto t rs → n ≡ countPassed p rs
+  count-upto t e n k = k ∙ sym (ap (λ q. countPassed q rs) e)
 
-pub gone-run : (p : Passed) (s d n : ℕ) → p ≡ All → n ≡ goneOf p (repeated s d n)
-gone-run p s d n e = gone-all p (repeated s d n) e n (sym (repeated-length s d n))
+pub count-run : (p : Passed) (s d n : ℕ) → p ≡ All → n ≡ countPassed p (repeated s d n)
+count-run p s d n e = count-all p (repeated s d n) e n (sym (repeated-length s d n))
 
-pub gone-most : (p : Passed) (rs : List Reference) → goneOf p rs ≤ length rs
-gone-most All rs = le-refl (length rs)
-gone-most (Upto t) rs = ended-most (t .0) rs
+pub count-most : (p : Passed) (rs : List Reference) → countPassed p rs ≤ length rs
+count-most All rs = le-refl (length rs)
+count-most (Upto t) rs = passed-most (t .0) rs
 
 -- ---- what is left
 
@@ -68,28 +69,28 @@ module _ (h : Head) (c : ℕ) where
   unspent-none w (r ∷ rs) = ap (λ t. cond t (unspent h c rs) (r ∷ unspent h c rs)) (w (endOf r)) ∙ unspent-none w rs
 
   -- where the first has not ended, all are left
-  unspent-later : (t : WideTick) → EndsPassed h c (Upto t) → (s : ℕ) (rs : List Reference) → Joined s rs → t .0 < s → unspent h c rs ≡ rs
+  unspent-later : (t : WideTick) → EndsPassed h c (Upto t) → (s : ℕ) (rs : List Reference) → EndToStart s rs → t .0 < s → unspent h c rs ≡ rs
   unfolding unspent
   unspent-later t w s [] j l = refl
   unspent-later t w s (r ∷ rs) j l =
       let m : t .0 < endOf r = omega (arith, j .0) in
       ap (λ b. cond b (unspent h c rs) (r ∷ unspent h c rs)) (w (endOf r) ∙ lt-leb (endOf r) (t .0) m) ∙ ap (λ zs. r ∷ zs) (unspent-later t w (endOf r) rs (j .1) m)
 
-  unspent-upto : (t : WideTick) → EndsPassed h c (Upto t) → (s : ℕ) (rs : List Reference) → Joined s rs → unspent h c rs ≡ drop (endedBy (t .0) rs) rs
-  unfolding unspent endedBy
+  unspent-upto : (t : WideTick) → EndsPassed h c (Upto t) → (s : ℕ) (rs : List Reference) → EndToStart s rs → unspent h c rs ≡ drop (passedUpto (t .0) rs) rs
+  unfolding unspent passedUpto
   unspent-upto t w s [] j = refl
   unspent-upto t w s (r ∷ rs) j =
       ap (λ b. cond b (unspent h c rs) (r ∷ unspent h c rs)) (w (endOf r)) ∙ go (leb (endOf r) (t .0)) refl (unspent-upto t w (endOf r) rs (j .1))
     where
-      go : (b : Bool) → leb (endOf r) (t .0) ≡ b → unspent h c rs ≡ drop (endedBy (t .0) rs) rs →
-          cond b (unspent h c rs) (r ∷ unspent h c rs) ≡ drop (cond b (suc (endedBy (t .0) rs)) (endedBy (t .0) rs)) (r ∷ rs)
+      go : (b : Bool) → leb (endOf r) (t .0) ≡ b → unspent h c rs ≡ drop (passedUpto (t .0) rs) rs →
+          cond b (unspent h c rs) (r ∷ unspent h c rs) ≡ drop (cond b (suc (passedUpto (t .0) rs)) (passedUpto (t .0) rs)) (r ∷ rs)
       go true e k = k
       go false e k =
           let l : t .0 < endOf r = leb-false (endOf r) (t .0) e in
-          ap (λ zs. r ∷ zs) (unspent-later t w (endOf r) rs (j .1) l) ∙ ap (λ (n : ℕ). drop n (r ∷ rs)) (sym (none-ended (t .0) (endOf r) rs (j .1) l))
+          ap (λ zs. r ∷ zs) (unspent-later t w (endOf r) rs (j .1) l) ∙ ap (λ (n : ℕ). drop n (r ∷ rs)) (sym (none-upto (t .0) (endOf r) rs (j .1) l))
 
-  -- THE LAW: what is left is what stands behind those that are gone
-  pub unspent-is : (p : Passed) → EndsPassed h c p → (s : ℕ) (rs : List Reference) → Joined s rs → unspent h c rs ≡ drop (goneOf p rs) rs
+  -- THE LAW: what is left is what stands behind those that are spent
+  pub unspent-is : (p : Passed) → EndsPassed h c p → (s : ℕ) (rs : List Reference) → EndToStart s rs → unspent h c rs ≡ drop (countPassed p rs) rs
   unspent-is All w s rs j = unspent-none w rs ∙ sym (drop-of-length-le rs (le-refl (length rs)))
   unspent-is (Upto t) w s rs j = unspent-upto t w s rs j
 
@@ -127,7 +128,7 @@ module _ (h : Head) (c : ℕ) where
       go false k = omega arith
 
   -- what is left of joined references stands behind the rest
-  pub unspent-suffix : (t : ℕ) (rs : List Reference) → Joined t rs → (n : ℕ) × (unspent h c rs ≡ drop n rs)
+  pub unspent-suffix : (t : ℕ) (rs : List Reference) → EndToStart t rs → (n : ℕ) × (unspent h c rs ≡ drop n rs)
   unfolding unspent coming
   unspent-suffix t [] j = (0, refl)
   unspent-suffix t (r ∷ rs) j = go (passed h (endOf r) c) refl (unspent-suffix (endOf r) rs (j .1))

@@ -1,2 +1,3 @@
 pub mod Keeping
-pub mod Joined
+pub mod Append
+pub mod Steps

@@ -5,11 +5,11 @@ ghost use Rattle.keeping.specs.Keeping.{outcomeNumber};
 use agreement::Record;
 use agreement::Refusal;
 
-mod joined;
+mod appending;
 mod spent;
 
-pub use joined::append_joined;
-pub use spent::gone_in;
+pub use appending::append_joined;
+pub use spent::count_passed;
 
 // What came of a call that changes.
 pub enum Outcome {

@@ -40,9 +40,9 @@ use Rattle.flonterri.specs.Tells.{Tells, verdictTells, availabilityTells, touch
 use Rattle.flonterri.specs.Face.{wrongRecord, wrongLength, guarded, changes, tells, readsBy, reads, writesBy, Changes as Seen, Reads as Readings, Writes as Wrote}
 use Rattle.flonterri.proofs.Refusing.{read-refused}
 use Rattle.flonterri.proofs.Lengths.{both-right, behind}
-use Rattle.flonterri.proofs.Binding.{refusal-some}
+use Rattle.agreement.proofs.Numbers.{refusal-some}
 use Rattle.laws.specs.Refusals.{lowest}
-use Rattle.laws.specs.Demand1.{Numbered, Changes, Only, Zeroes, Reads, Feeds, Finishes, recordRows, lengthRows, ChangesFromC, TellsC, ReadsFromC}
+use Rattle.laws.specs.Demand1.{GivesNumber, Changes, Only, Zeroes, Reads, Feeds, Finishes, recordRows, lengthRows, ChangesFromC, TellsC, ReadsFromC}
 use Rattle.laws.proofs.Reading.{reading-right}
 
 -- ---- Rattle's calls
@@ -279,6 +279,6 @@ module _ (bytes ws ts out : List ℕ) where
 pub writes-c : (ws bytes out : List ℕ) (rows : List (Bool × ℕ)) (wrote : Wrote) → wrote .number ≡ lowest (lengthRows ws out 1 rows) →
     ((wrote .number ≡ 0 → ⊥) → (wrote .bytes ≡ bytes) × (wrote .out ≡ out)) →
     (x : ℕ) (after line : List ℕ) → x ≡ wrote .number → after ≡ wrote .bytes → line ≡ wrote .out →
-    Numbered x (lengthRows ws out 1 rows) ((after ≡ bytes) × (line ≡ out))
+    GivesNumber x (lengthRows ws out 1 rows) ((after ≡ bytes) × (line ≡ out))
 writes-c ws bytes out rows wrote number leaves x after line e f g =
     record { number = e ∙ number; refused = λ k. let l = leaves (λ z. k (e ∙ z)) in (f ∙ l .0, g ∙ l .1) }

@@ -19,14 +19,14 @@ use Rattle.window.specs.declared.Needed.the-variants as needed
 use Rattle.window.proofs.Division.{ticks-needed, window-ticks, window-none, period-ticks}
 use Rattle.runs.specs.Words.{runsOf, wordsOf, repeated, referencesOf}
 use Rattle.runs.specs.Shape.{runsShaped, zeros}
-use Rattle.runs.specs.Joining.{lastEnd}
+use Rattle.runs.specs.Ends.{lastEnd}
 use Rattle.runs.specs.Encoding.{push, encode, tableOf}
 use Rattle.agreement.specs.declared.Record.{Record}
 use Rattle.agreement.specs.declared.refusal.Refusal.the-variants.{Disagreement, ClockLimit, EarlierClock, ShortOutput, EndUnknown}
 use Rattle.agreement.specs.Agreement.{every, agrees, kept}
 use Rattle.keeping.specs.declared.Outcome.the-variants as outcome
 use Rattle.keeping.specs.Keeping.{unspent, changedBy, wordsBy, outcomeNumber}
-use Rattle.keeping.specs.Joined.{roomOutcome, fitOutcome}
+use Rattle.keeping.specs.Append.{roomOutcome, fitOutcome}
 use Rattle.timeline.specs.Opening.{openOutcome}
 use Rattle.timeline.specs.Appending.{appendOutcome}
 use Rattle.timeline.specs.Trimming.{trimOutcome}
@@ -42,7 +42,7 @@ use Rattle.answers.proofs.Judging.{all-covered, first-lacking, end-lacking, jud
 use Rattle.hex.specs.Digits as hex
 use Rattle.frames.specs.Fields as fields
 use Rattle.frames.specs.Frames as frames
-use Rattle.frames.specs.Worked.{bytesOf}
+use Rattle.hex.specs.Ascii.{ascii}
 use Rattle.file.specs.declared.WriteAnswer.the-variants.{Written, Refused as NotWritten}
 use Rattle.file.specs.Lines.{linesFrom, restFrom}
 use Rattle.file.specs.Least.{leastFrom, leastCount}
@@ -150,7 +150,7 @@ record Wrote : Type 0 where
   head-line : length headLineB ≡ 82
 
 wrote : Wrote
-unfolding runsOf repeated referencesOf push encode writing.fileOf writing.sFrames writing.laterFrames writing.bytesOf frames.endedLine frames.lineOf fields.fieldDigits hex.digitsOf hex.digitOf bytesOf
+unfolding runsOf repeated referencesOf push encode writing.fileOf writing.sFrames writing.laterFrames writing.bytesOf frames.endedLine frames.lineOf fields.fieldDigits hex.digitsOf hex.digitOf ascii
 wrote = record { bytes = refl; long = refl; head-line = refl }
 
 b-written : (room : ℕ) → 129 ≤ room → writeAnswer (stateB3 .rec) (stateB3 .words) room ≡ Written 129
@@ -206,7 +206,7 @@ record File : Type 0 where
   table : readTable fileD (replicate 3 0) ≡ stateD2 .words
 
 file : File
-unfolding agrees runsOf wordsOf repeated referencesOf runsShaped zeros lastEnd every place moment periodEnd lowEdge push encode tableOf unspent changedBy wordsBy openOutcome roomOutcome fitOutcome appendOutcome trimOutcome hex.between hex.isDigit hex.valueOf hex.areDigits hex.numberOf fields.fieldValues frames.frameAs frames.frameOf bytesOf linesFrom restFrom leastFrom leastCount judging.settledReading judging.reachOutcome judging.reachesBy judging.takeS judging.takeFirstS judging.takeHead judging.takeEnd judging.onNothing judging.onHeaded judging.onOpen judging.onFilled judging.takeLine judging.takeLines judging.readLines judging.readOutcome judging.readAnswer judging.readTable
+unfolding agrees runsOf wordsOf repeated referencesOf runsShaped zeros lastEnd every place moment periodEnd lowEdge push encode tableOf unspent changedBy wordsBy openOutcome roomOutcome fitOutcome appendOutcome trimOutcome hex.between hex.isDigit hex.valueOf hex.areDigits hex.numberOf fields.fieldValues frames.frameAs frames.frameOf ascii linesFrom restFrom leastFrom leastCount judging.settledReading judging.reachOutcome judging.reachesBy judging.takeS judging.takeFirstS judging.takeHead judging.takeEnd judging.onNothing judging.onHeaded judging.onOpen judging.onFilled judging.takeLine judging.takeLines judging.readLines judging.readOutcome judging.readAnswer judging.readTable
 file = record { answer = refl; table = refl }
 
 -- ---- the table

@@ -5,6 +5,7 @@ use mathlib.Core.Bool.{true}
 use mathlib.Core.List.{List, [], _∷_, _++_, map, append-nil}
 use Prim.Native.Nat.{ℕ}
 use Rattle.frames.specs.declared.Frame.{Frame}
+use Rattle.frames.specs.Language.{AllFit}
 use Rattle.frames.specs.Frames.{isFrame, lineOf, frameOf}
 use Rattle.frames.proofs.Lines.{frame-written-read, line-read-written, read-fits}
 use Rattle.file.specs.Lines.{lineFeed, linesFrom, linesOf, restOf, ended}
@@ -13,7 +14,6 @@ use Rattle.file.specs.Writing.{bytesOf}
 use Rattle.file.proofs.Back.{unended-line, ended-before}
 use Rattle.file.proofs.Cutting.{line-next, lines-joined}
 use Rattle.file.proofs.Places.{narrow}
-use Rattle.laws.specs.Reading.{AllFit}
 
 pub frames-again : (fs : List Frame) → AllFit fs → map frameOf (linesOf (bytesOf fs)) ≡ fs
 unfolding bytesOf linesFrom

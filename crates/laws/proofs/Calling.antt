@@ -19,11 +19,11 @@ use Rattle.agreement.specs.Agreement.{agrees}
 use Rattle.keeping.specs.declared.Outcome.{Outcome}
 use Rattle.keeping.specs.declared.Outcome.the-variants.{Accepted, Refused}
 use Rattle.keeping.specs.Keeping.{changedBy, wordsBy}
-use Rattle.keeping.specs.Joined.{given, leftOf, fitOutcome, appended}
+use Rattle.keeping.specs.Append.{given, unspentOf, fitOutcome, appended}
 use Rattle.timeline.specs.Opening.{zeroRecord}
-use Rattle.timeline.specs.Appending.{joining, appendOutcome}
-use Rattle.timeline.specs.Trimming.{leftAt, trimOutcome, trimmed}
-use Rattle.laws.specs.Calls.{Call, byTick, byStamp, trimAt, State, appendTo, after, run, outcomeOf, ifAccepted, brought, allAccepted, Append, appendsOf, acceptedAppends, laidFrom}
+use Rattle.timeline.specs.Appending.{byStanding, appendOutcome}
+use Rattle.timeline.specs.Trimming.{unspentAt, trimOutcome, trimmed}
+use Rattle.laws.specs.Calls.{Call, byTick, byStamp, trimAt, State, appendTo, after, afterCalls, outcomeOf, ifAccepted, brought, allAccepted, Append, appendsOf, acceptedAppends, laidFrom}
 
 abbrev pub stateFrom : Record → List ℕ → State
 stateFrom r ws = record { rec = r; words = ws }
@@ -36,7 +36,7 @@ left-by o new old = stateFrom (changedBy o (new .rec) (old .rec) .rec) (wordsBy 
 
 module _ (s : State) (st : Standing) (d n : ℕ) where
   abbrev pub appendLeaves : State
-  appendLeaves = stateFrom (appended (s .rec) (s .words) d n) (canonical (length (s .words)) (leftOf (s .rec) (s .words) d n))
+  appendLeaves = stateFrom (appended (s .rec) (s .words) d n) (canonical (length (s .words)) (unspentOf (s .rec) (s .words) d n))
 
   pub append-done : appendOutcome (s .rec) (s .words) st d n ≡ Accepted → appendTo s st d n ≡ appendLeaves
   unfolding changedBy wordsBy
@@ -48,7 +48,7 @@ module _ (s : State) (st : Standing) (d n : ℕ) where
 
 module _ (s : State) (m : WideMillis) where
   abbrev pub trimLeaves : State
-  trimLeaves = stateFrom (trimmed (s .rec) (s .words) (m .0)) (canonical (length (s .words)) (leftAt (s .rec) (s .words) (m .0)))
+  trimLeaves = stateFrom (trimmed (s .rec) (s .words) (m .0)) (canonical (length (s .words)) (unspentAt (s .rec) (s .words) (m .0)))
 
   pub trim-done : trimOutcome (s .rec) (s .words) m ≡ Accepted → after s (trimAt m) ≡ trimLeaves
   unfolding changedBy wordsBy
@@ -117,7 +117,7 @@ module _ (came : List ℕ) where
   no-append : (st : Standing) (d n : ℕ) → appendOutcome zeroRecord came st d n ≡ Refused Disagreement
   unfolding appendOutcome
   no-append st d n =
-      ap (λ b. cond b (cond (eqb d 0 || eqb n 0) (Refused NothingGiven) (joining st (fitOutcome zeroRecord came d n))) (Refused Disagreement)) zero-disagrees
+      ap (λ b. cond b (cond (eqb d 0 || eqb n 0) (Refused NothingGiven) (byStanding st (fitOutcome zeroRecord came d n))) (Refused Disagreement)) zero-disagrees
 
   no-trim : (m : WideMillis) → trimOutcome zeroRecord came m ≡ Refused Disagreement
   unfolding trimOutcome
@@ -134,7 +134,7 @@ module _ (came : List ℕ) where
   pub never : (c : Call) → outcomeOf zeroed c ≡ Refused Disagreement
   never c = sym (answered zeroed c) ∙ no-call c .0
 
-  pub stay : (cs : List Call) → run zeroed cs ≡ zeroed
-  unfolding run
+  pub stay : (cs : List Call) → afterCalls zeroed cs ≡ zeroed
+  unfolding afterCalls
   stay [] = refl
-  stay (c ∷ cs) = ap (λ s. run s cs) (no-call c .1) ∙ stay cs
+  stay (c ∷ cs) = ap (λ s. afterCalls s cs) (no-call c .1) ∙ stay cs

@@ -24,10 +24,11 @@ use Rattle.agreement.specs.declared.refusal.Refusal.the-variants as refusal
 use Rattle.agreement.specs.Agreement.{every, countsHeld, agrees}
 use Rattle.keeping.specs.declared.Outcome.the-variants.{Accepted, Refused}
 use Rattle.keeping.specs.Keeping.{outcomeNumber, changedBy}
-use Rattle.keeping.specs.Joined.{Fitting, given, leftOf, roomOutcome, fitOutcome}
+use Rattle.keeping.specs.Append.{given, unspentOf, roomOutcome, fitOutcome}
+use Rattle.keeping.specs.Steps.{Fitting}
 use Rattle.keeping.proofs.Stored.{room-exactly}
 use Rattle.timeline.specs.Opening.{openOutcome, openAnswer}
-use Rattle.timeline.specs.Appending.{joining, appendOutcome, appendAnswer}
+use Rattle.timeline.specs.Appending.{byStanding, appendOutcome, appendAnswer}
 use Rattle.timeline.specs.Trimming.{trimOutcome, trimAnswer}
 use Rattle.timeline.proofs.Kept.{or-none}
 use Rattle.laws.specs.Refusals.{lowest, some, overLimit, noRunLeft, appendRows, openRows, trimRows, appendTickRows, appendStampRows}
@@ -84,7 +85,7 @@ module _ (rec : Record) (ws : List ℕ) (d n : ℕ) where
   begins = every (λ r. beforeEnd (rec .head) (r .start .0)) (given rec d n)
 
   room : Bool
-  room = leb (runsFor (leftOf rec ws d n)) (capacity ws)
+  room = leb (runsFor (unspentOf rec ws d n)) (capacity ws)
 
   -- the rows as the definitions have them
   by-tests : (st : Standing) → outcomeNumber (appendOutcome rec ws st d n) ≡
@@ -98,7 +99,7 @@ module _ (rec : Record) (ws : List ℕ) (d n : ℕ) where
           outcomeNumber
           (cond a
           (cond z (Refused refusal.NothingGiven)
-          (joining st
+          (byStanding st
           (cond e (cond c (cond b (cond r Accepted (Refused refusal.NoRunLeft)) (Refused refusal.PastEnd)) (Refused refusal.CountLimit))
           (Refused refusal.TickLimit))))
           (Refused refusal.Disagreement)) ≡

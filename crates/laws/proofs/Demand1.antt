@@ -9,9 +9,8 @@ use denote.Ref.{now}
 use lib.IntN.{ℤ}
 use lib.ListN.{length}
 use Rattle.units.specs.declared.Tick.{Tick}
-use Rattle.units.specs.Limits.{largestSpan}
+use Rattle.units.specs.Limits.{largestSpan, tickOf}
 use Rattle.units.specs.Standing.{tickStanding, stampStanding}
-use Rattle.units.specs.Limits.{tickOf}
 use Rattle.window.specs.Limits.{headOf}
 use Rattle.timeline.specs.Opening.{openOutcome, openAnswer, openTable, zeroRecord}
 use Rattle.timeline.specs.Appending.{appendOutcome}
@@ -26,12 +25,12 @@ use Rattle.flonterri.specs.Tells.{verdictTells, availabilityTells, touchingTell
 use Rattle.flonterri.specs.Face.{opens, appends, appendsStamp, trims, tellsVerdict, tellsWhole, tellsAvailability, tellsTouching, writes}
 use Rattle.flonterri.proofs.Refusing as refusing
 use Rattle.laws.specs.Refusals.{lowest, overLimit, openRows, appendTickRows, appendStampRows, trimRows, verdictRows, wholeRows, availabilityRows, touchingRows, writeRows}
-use Rattle.laws.specs.Demand1.{Numbered, lengthRows, ChangesFromC, OpensFromC, TellsC, Demand1}
+use Rattle.laws.specs.Demand1.{GivesNumber, lengthRows, ChangesFromC, OpensFromC, TellsC, Demand1}
 use Rattle.laws.proofs.Refusals.{refusals}
 use Rattle.laws.proofs.Answering.{changing, verdict-only, availability-only, available-only, touching-only, no-part, write-leaves, reading, feeding, finishing, changes-number, tells-number, verdict-told, availability-told, touching-told, writes-number, changes-c, tells-c, length-alone, reads-c, writes-c}
 
 -- a number, and what is left where it refuses, of an answer that equals another
-moved : {A : Type 0} {left : Type 0} {rows : List (Bool × ℕ)} (f : A → ℕ) (x y : A) → x ≡ y → f y ≡ lowest rows → ((f x ≡ 0 → ⊥) → left) → Numbered (f x) rows left
+moved : {A : Type 0} {left : Type 0} {rows : List (Bool × ℕ)} (f : A → ℕ) (x y : A) → x ≡ y → f y ≡ lowest rows → ((f x ≡ 0 → ⊥) → left) → GivesNumber (f x) rows left
 moved f x y e number left = record { number = ap f e ∙ number; refused = left }
 
 module _ (ws ts : List ℕ) (scale offset start duration depth first tick : ℕ) where
@@ -120,7 +119,7 @@ module _ (ws ts : List ℕ) where
       (refusing.touching-refused ws ts a b out) x after e f
 
   write-c : (bytes out : List ℕ) (x : ℕ) (after line : List ℕ) → x ≡ writes ws ts bytes out .number → after ≡ writes ws ts bytes out .bytes → line ≡ writes ws ts bytes out .out →
-      Numbered x (lengthRows ws out 1 (writeRows (recordOf ws) ts (length bytes))) ((after ≡ bytes) × (line ≡ out))
+      GivesNumber x (lengthRows ws out 1 (writeRows (recordOf ws) ts (length bytes))) ((after ≡ bytes) × (line ≡ out))
   unfolding writes
   write-c bytes out x after line e f g =
       let rows = writeRows (recordOf ws) ts (length bytes) in

@@ -7,6 +7,7 @@ use native.Mathlib.Omega.{arith}
 use borrow.Author.Tests.{eqb-true, eqb-false, eq-eqb, ne-eqb, leb-true, leb-false, le-leb, lt-leb}
 use lib.Dec.{eqb, leb}
 use lib.ListN.{length, getD, drop}
+use Rattle.units.specs.Exactly.{ExactlyWhen}
 use Rattle.units.specs.declared.WideMillis.{WideMillis}
 use Rattle.units.specs.declared.WideTick.{WideTick}
 use Rattle.units.specs.Limits.{largestMillis}
@@ -25,7 +26,7 @@ use Rattle.answers.specs.Judgement.{verdictAt, verdictWhole}
 use Rattle.frames.specs.declared.Frame.{Frame}
 use Rattle.frames.specs.declared.Frame.the-variants as frame
 use Rattle.frames.specs.Frames.{kindOf, lineOf, frameOf}
-use Rattle.frames.specs.Worked.{bytesOf as ascii}
+use Rattle.hex.specs.Ascii.{ascii}
 use Rattle.frames.proofs.Lines.{language}
 use Rattle.file.specs.declared.ReadAnswer.{ReadAnswer}
 use Rattle.file.specs.Lines.{lineFeed}
@@ -36,12 +37,13 @@ use Rattle.report.specs.declared.Asked.{Asked}
 use Rattle.report.specs.declared.Asked.the-variants as asked
 use Rattle.report.specs.declared.Reply.the-variants as reply
 use Rattle.report.specs.Input.{hasFeed, firstLine, behindFirst}
-use Rattle.report.specs.Clock.{allOnes, askedBy, askedOn}
+use Rattle.frames.specs.Fields.{allOnes}
+use Rattle.report.specs.Clock.{askedBy, askedOn}
 use Rattle.report.specs.Text.{PercentRight, refusedText, verdictText, textOf}
 use Rattle.report.specs.Answer.{askedIn, replyOn, replyIn, answerIn, answer}
 use Rattle.report.proofs.Cuts.{unfed-line, unfed-has, unfed-behind}
 use Rattle.report.proofs.Figures.{figures}
-use Rattle.laws.specs.Demand2.{ExactlyWhen, Completes, Lacks, NeedsNone, disagree, over, early, disagreeing, unknown, NotAsked, NotAskedWhole}
+use Rattle.laws.specs.Demand2.{Completes, Lacks, NeedsNone, disagree, over, early, disagreeing, unknown, MayNotAsk, MayNotAskWhole}
 use Rattle.laws.specs.Demand2 as demand
 use Rattle.laws.specs.Desk as desk
 use Rattle.laws.specs.Desk.{Asks, Verdicts, at-clock, of-whole, lent, Accepts, Window, Hears, Completed, Lacked, Unneeded, Refused, no-clock, bad-line, no-end, completeLine, lackingLine, nothingLine, refusedLine, Begins, Says, DeskSays}
@@ -205,10 +207,10 @@ module _ (file : List ℕ) (rec : Record) (ws : List ℕ) (x : Accepts file rec 
   at-zero = sym (ap (λ (y : ReadAnswer). y .rec .clock .0) (x .answer)) ∙ read-clock file lent
 
   module _ (clock : ℕ) (l : clock ≤ largestMillis) where
-    may-ask : demand.Asked rec ws (millis clock)
+    may-ask : demand.MayAsk rec ws (millis clock)
     may-ask = record { agreed = agreed; limit = l; later = omega (arith, at-zero) }
 
-    never-at : (why : Refusal) → NotAsked rec ws (millis clock) why → ⊥
+    never-at : (why : Refusal) → MayNotAsk rec ws (millis clock) why → ⊥
     never-at _ (disagree e) = false≢true (sym e ∙ agreed)
     never-at _ (over e m) = omega arith
     never-at _ (early e m k) = omega (arith, at-zero)
@@ -236,10 +238,10 @@ module _ (file : List ℕ) (rec : Record) (ws : List ℕ) (x : Accepts file rec 
         }
 
   module _ (known : 1 ≤ rec .head .duration .0) where
-    may-ask-whole : demand.AskedWhole rec ws
+    may-ask-whole : demand.MayAskWhole rec ws
     may-ask-whole = record { agreed = agreed; known = known }
 
-    never-whole : (why : Refusal) → NotAskedWhole rec ws why → ⊥
+    never-whole : (why : Refusal) → MayNotAskWhole rec ws why → ⊥
     never-whole _ (disagreeing e) = false≢true (sym e ∙ agreed)
     never-whole _ (unknown e f) = omega arith
 

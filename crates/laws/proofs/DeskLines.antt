@@ -8,7 +8,7 @@ use lib.Seq.{drop-append-seam}
 use Rattle.units.specs.declared.WideTick.{WideTick}
 use Rattle.answers.specs.declared.Verdict.the-variants as verdict
 use Rattle.answers.specs.Shares.{percentOf, percentNumber}
-use Rattle.frames.specs.Worked.{bytesOf as ascii}
+use Rattle.hex.specs.Ascii.{ascii}
 use Rattle.file.specs.Lines.{lineFeed}
 use Rattle.report.specs.Text.{decimalBy, decimal, shareText, verdictText, goesOn, readFrom}
 use Rattle.report.proofs.Figures.{figures}

@@ -2,20 +2,21 @@
 use mathlib.Core.Path.{_≡_, refl, sym, ap, ap₂, subst⁻¹, _∙_}
 use mathlib.Core.Bool.{Bool, true, false, cond, not}
 use mathlib.Core.List.{List, _++_}
-use Prim.Native.Nat.{ℕ, zero, suc, _+_, _*_, _≤_, _<_}
+use Prim.Native.Nat.{ℕ, _+_, _≤_}
 use native.Mathlib.Omega.{arith}
 use borrow.Author.Tests.{ne-eqb, leb-true, le-leb, le-ltb}
 use lib.Dec.{eqb, leb}
 use lib.ListN.{length, getD, take, drop}
 use lib.Seq.{take-append-seam}
+use Rattle.units.specs.Exactly.{ExactlyWhen}
 use Rattle.units.specs.declared.standing.Standing.the-variants.{Joins}
 use Rattle.window.specs.declared.Head.{Head}
-use Rattle.window.specs.Place.{endKnown, beforeEnd}
-use Rattle.window.specs.Ticks.{reachesEnd, LeastCount}
+use Rattle.window.specs.Place.{beforeEnd}
+use Rattle.window.specs.Ticks.{LeastCount}
 use Rattle.runs.specs.Words.{keptIn, capacity}
 use Rattle.runs.specs.Shape.{shaped}
 use Rattle.runs.specs.Encoding.{runsFor, canonical}
-use Rattle.runs.proofs.Joins.{kept-join}
+use Rattle.runs.proofs.EndToStart.{kept-join}
 use Rattle.runs.proofs.Tables.{runs-for-kept, canonical-kept}
 use Rattle.agreement.specs.declared.Record.{Record}
 use Rattle.agreement.specs.declared.refusal.Refusal.{Refusal}
@@ -23,7 +24,7 @@ use Rattle.agreement.specs.declared.refusal.Refusal.the-variants.{Disagreement,
 use Rattle.agreement.specs.Agreement.{agrees, kept}
 use Rattle.agreement.proofs.Agreeing.{agree-shaped}
 use Rattle.keeping.specs.declared.Outcome.the-variants as outcome
-use Rattle.keeping.specs.Joined.{fitOutcome}
+use Rattle.keeping.specs.Append.{fitOutcome}
 use Rattle.timeline.specs.Appending.{appendOutcome}
 use Rattle.frames.specs.declared.SFields.{SFields}
 use Rattle.file.specs.declared.Reading.{Reading}
@@ -36,7 +37,7 @@ use Rattle.file.specs.Writing.{keptHead, fileFor, writeAnswer, outputBy}
 use Rattle.file.proofs.Counts as count
 use Rattle.file.proofs.Stable as stable
 use Rattle.answers.proofs.Counting.{some-of}
-use Rattle.laws.specs.Demand2.{ExactlyWhen, firstKept, Writes, ReadsBack, output, SameKept, Least}
+use Rattle.laws.specs.Demand2.{firstKept, Writes, ReadsBack, output, SameKept}
 
 -- ---- what was written
 
@@ -148,43 +149,24 @@ module _ (rec other : Record) (ws vs : List ℕ) (a : agrees rec ws ≡ true) (b
 
 -- ---- the least count
 
-module _ (h : Head) (s d n : ℕ) (lasts : 1 ≤ d) (known : 1 ≤ h .duration .0) (before : beforeEnd h s ≡ true) where
-  ends : endKnown h ≡ true
-  ends = ap not (ne-eqb (h .duration .0) 0 (λ z. let y : ⊥ = omega arith in y))
-
-  -- no reference reaches the end where the first starts before it
-  least-is : Least h s d n → LeastCount h s d n
-  least-is l = record { enough = l .reaches; least = below }
-    where
-      least : LeastCount h s d (leastCount h s d)
-      least = count.least-holds h s d lasts ends before
-
-      below : (m : ℕ) → m < n → reachesEnd h (s + d * m) ≡ false
-      below zero k = least .least 0 (count.least-some h s d lasts (leastCount h s d) ends before least)
-      below (suc m) k = l .least (suc m) (omega arith) k
-
-  pub least-count : ExactlyWhen (n ≡ leastCount h s d) (Least h s d n)
-  least-count = record { only = λ e. subst⁻¹ (Least h s d) e found; if = λ l. count.least-is h s d lasts n (least-is l) }
-    where
-      found : Least h s d (leastCount h s d)
-      found =
-          let l = count.least-holds h s d lasts ends before in
-          record { some = count.least-some h s d lasts (leastCount h s d) ends before l; reaches = l .enough; least = λ m i k. l .least m k }
+pub least-count : (h : Head) (s d n : ℕ) → 1 ≤ d → ExactlyWhen (n ≡ leastCount h s d) (LeastCount h s d n)
+least-count h s d n lasts =
+    record { only = λ e. subst⁻¹ (LeastCount h s d) e (count.least-holds h s d lasts); if = λ l. count.least-is h s d lasts n l }
 
 pub negative-r : (r : Reading) (ws : List ℕ) (s : SFields) (n : ℕ) → firstNegative ≤ s .r → 1 ≤ s .d → 1 ≤ r .rec .head .duration .0 →
-    beforeEnd (r .rec .head) (r .rec .next .0) ≡ true → Least (r .rec .head) (r .rec .next .0) (s .d) n →
+    beforeEnd (r .rec .head) (r .rec .next .0) ≡ true → LeastCount (r .rec .head) (r .rec .next .0) (s .d) n →
     takeS r ws Joins s ≡ appendedBy (fitOutcome (r .rec) ws (s .d) n) Filled r ws (s .d) n
 unfolding takeS reachesBy reachOutcome
 negative-r r ws s n negative lasts known before l =
     ap (λ t. cond t (appendedBy (appendOutcome (r .rec) ws Joins (s .d) (s .r + 1)) Open r ws (s .d) (s .r + 1)) (reachesBy r ws Joins (s .d)))
     (le-ltb (s .r) firstNegative negative) ∙
     ap (λ (m : ℕ). appendedBy (reachOutcome (r .rec) ws Joins (s .d) m) Filled r ws (s .d) m)
-    (sym (least-count (r .rec .head) (r .rec .next .0) (s .d) n lasts known before .if l)) ∙
+    (sym (least-count (r .rec .head) (r .rec .next .0) (s .d) n lasts .if l)) ∙
     ap (λ o. appendedBy o Filled r ws (s .d) n) judged
   where
     judged : reachOutcome (r .rec) ws Joins (s .d) n ≡ fitOutcome (r .rec) ws (s .d) n
     judged =
         ap₂ (λ t u. cond t (outcome.Refused NothingGiven) (cond u (cond (beforeEnd (r .rec .head) (r .rec .next .0)) (fitOutcome (r .rec) ws (s .d) n) (outcome.Refused PastEnd)) (outcome.Refused NoEndToReach)))
         (ne-eqb (s .d) 0 (λ z. let y : ⊥ = omega arith in y))
-        (ends (r .rec .head) (r .rec .next .0) (s .d) n lasts known before) ∙
+        (ap not (ne-eqb (r .rec .head .duration .0) 0 (λ z. let y : ⊥ = omega arith in y))) ∙
         ap (λ t. cond t (fitOutcome (r .rec) ws (s .d) n) (outcome.Refused PastEnd)) before

@@ -15,13 +15,13 @@ use Rattle.units.specs.Standing.{tickStanding, stampStanding}
 use Rattle.units.specs.Limits.{largestSpan, largestMillis}
 use Rattle.window.specs.declared.Head.{Head}
 use Rattle.window.specs.declared.Reference.{Reference}
-use Rattle.window.specs.References.{Joined, Each, Sound}
+use Rattle.window.specs.References.{EndToStart, Each, Sound}
 use Rattle.runs.specs.Words.{repeated}
 use Rattle.runs.specs.Words as Words
 use Rattle.runs.specs.Encoding.{encode, tableOf, runsFor, canonical}
-use Rattle.runs.specs.Joining.{lastEnd}
+use Rattle.runs.specs.Ends.{lastEnd}
 use Rattle.runs.proofs.Opening.{repeated-length}
-use Rattle.runs.proofs.Joins.{join-append, each-append, repeated-join, repeated-end, end-append}
+use Rattle.runs.proofs.EndToStart.{join-append, each-append, repeated-join, repeated-end, end-append}
 use Rattle.runs.proofs.Tables.{canonical-length}
 use Rattle.agreement.specs.declared.Record.{Record}
 use Rattle.agreement.specs.declared.refusal.Refusal.{Refusal}
@@ -30,13 +30,13 @@ use Rattle.agreement.proofs.Agreeing.{agreeing}
 use Rattle.keeping.specs.declared.Outcome.{Outcome}
 use Rattle.keeping.specs.declared.Outcome.the-variants.{Accepted, Refused}
 use Rattle.keeping.specs.Keeping.{unspent, changedBy, wordsBy}
-use Rattle.keeping.specs.Joined.{given, allOf, leftOf, appended}
+use Rattle.keeping.specs.Append.{given, allOf, unspentOf, appended}
 use Rattle.keeping.proofs.Unspent.{unspent-append, unspent-few}
 use Rattle.timeline.specs.Opening.{freshRecord, zeroRecord, openOutcome}
 use Rattle.timeline.specs.Appending.{appendOutcome}
-use Rattle.timeline.specs.Trimming.{leftAt, trimOutcome, trimmed}
+use Rattle.timeline.specs.Trimming.{unspentAt, trimOutcome, trimmed}
 use Rattle.timeline.proofs.Kept.{open-agrees, trim-keeps, Taken, taken, accepted-keeps}
-use Rattle.laws.specs.Calls.{Call, byTick, byStamp, trimAt, Plain, State, opening, appendTo, after, run, outcomeOf, ifAccepted, brought, allAccepted, acceptedAppends, laidFrom, clockIf, clockOf, greatest}
+use Rattle.laws.specs.Calls.{Call, byTick, byStamp, trimAt, Plain, State, opening, appendTo, after, afterCalls, outcomeOf, ifAccepted, brought, allAccepted, acceptedAppends, laidFrom, clockIf, clockOf, greatest}
 use Rattle.laws.specs.History.{StillNeeded, Picked, Holds, Mixings, Demand3}
 use Rattle.laws.proofs.Calling.{stateFrom, append-done, append-refused, trim-done, trim-refused, answered, laid-out, never, stay}
 use Rattle.laws.proofs.Leaving.{unspent-raised, left-suffix, left-kept, trim-room, trim-small, each-sound, drop-counted, still}
@@ -65,7 +65,7 @@ module _ (h : Head) (t : Tick) (words : ℕ) where
   record Fit (acc : List Reference) (c : ℕ) : Type 0 where
     agreed : agrees (recordOf acc c) (wordsOf acc c) ≡ true
     long : length (wordsOf acc c) ≡ words
-    joined : Joined (t .0) acc
+    joined : EndToStart (t .0) acc
     sound : Each (Sound h) acc
 
   module _ (acc : List Reference) (c : ℕ) (fit : Fit acc c) where
@@ -85,7 +85,7 @@ module _ (h : Head) (t : Tick) (words : ℕ) where
         took : Taken (recordOf acc c) (wordsOf acc c) st d n
         took = taken (recordOf acc c) (wordsOf acc c) st d n e
 
-        left-is : leftOf (recordOf acc c) (wordsOf acc c) d n ≡ unspent h c (acc ++ new)
+        left-is : unspentOf (recordOf acc c) (wordsOf acc c) d n ≡ unspent h c (acc ++ new)
         unfolding new
         left-is =
             ap (λ xs. unspent h c (xs ++ new)) kept-is ∙
@@ -104,7 +104,7 @@ module _ (h : Head) (t : Tick) (words : ℕ) where
         unfolding new
         count-is = omega (arith, length-append acc new, repeated-length (lastEnd (t .0) acc) d n)
 
-        dropped-is : (length acc - length (unspent h c acc)) + (length (allOf (recordOf acc c) (wordsOf acc c) d n) - length (leftOf (recordOf acc c) (wordsOf acc c) d n)) ≡
+        dropped-is : (length acc - length (unspent h c acc)) + (length (allOf (recordOf acc c) (wordsOf acc c) d n) - length (unspentOf (recordOf acc c) (wordsOf acc c) d n)) ≡
             length (acc ++ new) - length (unspent h c (acc ++ new))
         unfolding new
         dropped-is =
@@ -121,10 +121,10 @@ module _ (h : Head) (t : Tick) (words : ℕ) where
 
         record-is : appended (recordOf acc c) (wordsOf acc c) d n ≡ recordOf (acc ++ new) c
         record-is =
-            ap₂ (λ (a x : ℕ). record { head = h; accepted = a; dropped = x; next = record { 0 = lastEnd (t .0) acc + d * n }; clock = record { 0 = c }; used = runsFor (leftOf (recordOf acc c) (wordsOf acc c) d n) }) count-is dropped-is ∙
+            ap₂ (λ (a x : ℕ). record { head = h; accepted = a; dropped = x; next = record { 0 = lastEnd (t .0) acc + d * n }; clock = record { 0 = c }; used = runsFor (unspentOf (recordOf acc c) (wordsOf acc c) d n) }) count-is dropped-is ∙
             ap₂ (λ (x u : ℕ). record { head = h; accepted = length (acc ++ new); dropped = length (acc ++ new) - length (unspent h c (acc ++ new)); next = record { 0 = x }; clock = record { 0 = c }; used = u }) next-is (ap runsFor left-is)
 
-        words-is : canonical (length (wordsOf acc c)) (leftOf (recordOf acc c) (wordsOf acc c) d n) ≡ wordsOf (acc ++ new) c
+        words-is : canonical (length (wordsOf acc c)) (unspentOf (recordOf acc c) (wordsOf acc c) d n) ≡ wordsOf (acc ++ new) c
         words-is = ap₂ canonical (fit .long) left-is
 
         append-state : appendTo (stateOf acc c) st d n ≡ stateOf (acc ++ new) c
@@ -137,7 +137,7 @@ module _ (h : Head) (t : Tick) (words : ℕ) where
         room : runsFor (unspent h c (acc ++ new)) ≤ words / 3
         room =
             subst (λ rs. runsFor rs ≤ words / 3) left-is
-            (subst (λ (m : ℕ). runsFor (leftOf (recordOf acc c) (wordsOf acc c) d n) ≤ m / 3) (fit .long) (took .room))
+            (subst (λ (m : ℕ). runsFor (unspentOf (recordOf acc c) (wordsOf acc c) d n) ≤ m / 3) (fit .long) (took .room))
 
         append-fit : Fit (acc ++ new) c
         unfolding new
@@ -153,10 +153,10 @@ module _ (h : Head) (t : Tick) (words : ℕ) where
 
     module _ (m : WideMillis) where
       module _ (e : trimOutcome (recordOf acc c) (wordsOf acc c) m ≡ Accepted) where
-        less-is : leftAt (recordOf acc c) (wordsOf acc c) (m .0) ≡ unspent h (max c (m .0)) acc
+        less-is : unspentAt (recordOf acc c) (wordsOf acc c) (m .0) ≡ unspent h (max c (m .0)) acc
         less-is = ap (unspent h (max c (m .0))) kept-is ∙ unspent-raised h c (max c (m .0)) (le-max-left c (m .0)) acc
 
-        more-dropped : (length acc - length (unspent h c acc)) + (length (kept (recordOf acc c) (wordsOf acc c)) - length (leftAt (recordOf acc c) (wordsOf acc c) (m .0))) ≡
+        more-dropped : (length acc - length (unspent h c acc)) + (length (kept (recordOf acc c) (wordsOf acc c)) - length (unspentAt (recordOf acc c) (wordsOf acc c) (m .0))) ≡
             length acc - length (unspent h (max c (m .0)) acc)
         more-dropped =
             omega (
@@ -171,7 +171,7 @@ module _ (h : Head) (t : Tick) (words : ℕ) where
         trimmed-is =
             ap₂ (λ (x u : ℕ). record { head = h; accepted = length acc; dropped = x; next = record { 0 = lastEnd (t .0) acc }; clock = record { 0 = max c (m .0) }; used = u }) more-dropped (ap runsFor less-is)
 
-        trim-words : canonical (length (wordsOf acc c)) (leftAt (recordOf acc c) (wordsOf acc c) (m .0)) ≡ wordsOf acc (max c (m .0))
+        trim-words : canonical (length (wordsOf acc c)) (unspentAt (recordOf acc c) (wordsOf acc c) (m .0)) ≡ wordsOf acc (max c (m .0))
         trim-words = ap₂ canonical (fit .long) less-is
 
         trim-state : after (stateOf acc c) (trimAt m) ≡ stateOf acc (max c (m .0))
@@ -186,7 +186,7 @@ module _ (h : Head) (t : Tick) (words : ℕ) where
         room-left : runsFor (unspent h (max c (m .0)) acc) ≤ words / 3
         room-left =
             subst (λ rs. runsFor rs ≤ words / 3) less-is
-            (subst (λ (k : ℕ). runsFor (leftAt (recordOf acc c) (wordsOf acc c) (m .0)) ≤ k / 3) (fit .long)
+            (subst (λ (k : ℕ). runsFor (unspentAt (recordOf acc c) (wordsOf acc c) (m .0)) ≤ k / 3) (fit .long)
             (trim-room (recordOf acc c) (wordsOf acc c) (fit .agreed) (m .0)))
 
         trim-fit : Fit acc (max c (m .0))
@@ -263,7 +263,7 @@ module _ (h : Head) (t : Tick) (words : ℕ) where
 
   -- THE LAW: a list of calls takes the state of a history to the state of the longer history
   record Ran (acc : List Reference) (c : ℕ) (cs : List Call) : Type 0 where
-    state : run (stateOf acc c) cs ≡ stateOf (acc ++ allAccepted (stateOf acc c) cs) (max c (greatest (stateOf acc c) cs))
+    state : afterCalls (stateOf acc c) cs ≡ stateOf (acc ++ allAccepted (stateOf acc c) cs) (max c (greatest (stateOf acc c) cs))
     fits : Fit (acc ++ allAccepted (stateOf acc c) cs) (max c (greatest (stateOf acc c) cs))
 
   plain-first : (call : Call) (cs : List Call) → Plain (call ∷ cs) → Plain (call ∷ []) × Plain cs
@@ -272,7 +272,7 @@ module _ (h : Head) (t : Tick) (words : ℕ) where
   plain-first (trimAt m) cs p = (tt, p)
 
   runs : (acc : List Reference) (c : ℕ) → Fit acc c → (cs : List Call) → Plain cs → Ran acc c cs
-  unfolding run allAccepted greatest
+  unfolding afterCalls allAccepted greatest
   runs acc c f [] p =
       record {
         state = ap₂ stateOf (sym (append-nil acc)) (sym (max-zero c));
@@ -292,7 +292,7 @@ module _ (h : Head) (t : Tick) (words : ℕ) where
       ap (λ x. max c (max (clockOf s call) (greatest x cs))) (sym (k .state))
       in
       record {
-        state = ap (λ x. run x cs) (k .state) ∙ r .state ∙ ap₂ stateOf long high;
+        state = ap (λ x. afterCalls x cs) (k .state) ∙ r .state ∙ ap₂ stateOf long high;
         fits = same-history _ _ _ _ long high (r .fits);
       }
 
@@ -365,8 +365,8 @@ module _ (h : Head) (t : Tick) (came : List ℕ) where
       ran : Ran h t (length came) [] 0 cs
       ran = runs h t (length came) [] 0 (start-fit h t (length came) o) cs p
 
-      ends-in : run opens cs ≡ reached (allAccepted opens cs) (greatest opens cs)
-      ends-in = ap (λ x. run x cs) start-is ∙ ran .state ∙ ap₂ reached all-same clock-same
+      ends-in : afterCalls opens cs ≡ reached (allAccepted opens cs) (greatest opens cs)
+      ends-in = ap (λ x. afterCalls x cs) start-is ∙ ran .state ∙ ap₂ reached all-same clock-same
 
       ends-fit : Fit h t (length came) (allAccepted opens cs) (greatest opens cs)
       ends-fit = same-history h t (length came) _ _ _ _ all-same clock-same (ran .fits)
@@ -387,14 +387,14 @@ laid h t came o cs =
 -- ---- two lists of calls
 
 module _ (h : Head) (t : Tick) (came other : List ℕ) (cs ds : List Call) (m : Mixings h t came other cs ds) where
-  split : allAccepted (opening h t came) cs ≡ allAccepted (opening h t other) ds → run (opening h t came) cs ≡ run (opening h t other) ds
+  split : allAccepted (opening h t came) cs ≡ allAccepted (opening h t other) ds → afterCalls (opening h t came) cs ≡ afterCalls (opening h t other) ds
   split e =
       ends-in h t came (m .opens) cs (m .first) ∙
       ap₂ (stateOf h t (length came)) e (m .one-clock) ∙
       ap (λ (n : ℕ). stateOf h t n (allAccepted (opening h t other) ds) (greatest (opening h t other) ds)) (m .one-length) ∙
       sym (ends-in h t other (m .opens) ds (m .second))
 
-  same : acceptedAppends (opening h t came) cs ≡ acceptedAppends (opening h t other) ds → run (opening h t came) cs ≡ run (opening h t other) ds
+  same : acceptedAppends (opening h t came) cs ≡ acceptedAppends (opening h t other) ds → afterCalls (opening h t came) cs ≡ afterCalls (opening h t other) ds
   same e = split (laid h t came (m .opens) cs ∙ ap (laidFrom (t .0)) e ∙ sym (laid h t other (m .opens) ds))
 
 pub demand-3 : Demand3
@@ -406,6 +406,6 @@ demand-3 =
       laid = laid;
       same = same;
       split = split;
-      refused = λ h t came why o cs. ap (λ s. run s cs) (refused-is h t came why o) ∙ stay came cs;
+      refused = λ h t came why o cs. ap (λ s. afterCalls s cs) (refused-is h t came why o) ∙ stay came cs;
       never = never;
     }

@@ -13,13 +13,13 @@ use Rattle.window.specs.declared.Head.{Head}
 use Rattle.window.specs.declared.Reference.{Reference}
 use Rattle.window.specs.Place.{beforeEnd}
 use Rattle.window.specs.Window.{endOf, passed}
-use Rattle.window.specs.References.{Joined, Each, Sound}
+use Rattle.window.specs.References.{EndToStart, Each, Sound}
 use Rattle.window.proofs.Spending.{passed-later, passed-spent, yet-needed}
 use Rattle.runs.specs.Words.{repeated, keptIn}
 use Rattle.runs.specs.Encoding.{runsFor, canonical}
-use Rattle.runs.specs.Joining.{lastEnd}
+use Rattle.runs.specs.Ends.{lastEnd}
 use Rattle.runs.proofs.Encoded.{runs-drop}
-use Rattle.runs.proofs.Joins.{join-drop, kept-join}
+use Rattle.runs.proofs.EndToStart.{join-drop, kept-join}
 use Rattle.runs.proofs.Tables.{canonical-kept, runs-for-kept, used-fits}
 use Rattle.agreement.specs.declared.Record.{Record}
 use Rattle.agreement.specs.declared.refusal.Refusal.the-variants.{Disagreement, ClockLimit}
@@ -29,7 +29,7 @@ use Rattle.keeping.specs.declared.Outcome.the-variants.{Accepted, Refused}
 use Rattle.keeping.specs.Keeping.{unspent}
 use Rattle.keeping.proofs.Outcomes.{past-if}
 use Rattle.keeping.proofs.Unspent.{unspent-suffix}
-use Rattle.timeline.specs.Trimming.{leftAt, trimOutcome}
+use Rattle.timeline.specs.Trimming.{unspentAt, trimOutcome}
 use Rattle.laws.specs.History.{StillNeeded, Picked, end, kept-one, left-out}
 
 pub unspent-raised : (h : Head) (c d : ℕ) → c ≤ d → (rs : List Reference) → unspent h d (unspent h c rs) ≡ unspent h d rs
@@ -43,12 +43,12 @@ unspent-raised h c d l (r ∷ rs) = go (passed h (endOf r) c) refl (unspent-rais
     go false e k = ap (λ xs. cond (passed h (endOf r) d) xs (r ∷ xs)) k
 
 -- what is left of joined references stands behind the rest, joins, takes no more runs, and its canonical table keeps just it
-module _ (h : Head) (c t : ℕ) (rs : List Reference) (joined : Joined t rs) where
+module _ (h : Head) (c t : ℕ) (rs : List Reference) (joined : EndToStart t rs) where
   pub left-suffix : (n : ℕ) × (unspent h c rs ≡ drop n rs)
   left-suffix = unspent-suffix h c t rs joined
 
-  left-joined : Joined (lastEnd t (take (left-suffix .0) rs)) (unspent h c rs)
-  left-joined = subst⁻¹ (Joined (lastEnd t (take (left-suffix .0) rs))) (left-suffix .1) (join-drop (left-suffix .0) t rs joined)
+  left-joined : EndToStart (lastEnd t (take (left-suffix .0) rs)) (unspent h c rs)
+  left-joined = subst⁻¹ (EndToStart (lastEnd t (take (left-suffix .0) rs))) (left-suffix .1) (join-drop (left-suffix .0) t rs joined)
 
   pub left-fewer : runsFor (unspent h c rs) ≤ runsFor rs
   left-fewer = subst⁻¹ (λ xs. runsFor xs ≤ runsFor rs) (left-suffix .1) (runs-drop (left-suffix .0) rs)
@@ -57,7 +57,7 @@ module _ (h : Head) (c t : ℕ) (rs : List Reference) (joined : Joined t rs) whe
   left-kept words = canonical-kept (lastEnd t (take (left-suffix .0) rs)) words (unspent h c rs) left-joined
 
 -- what a trim leaves finds room in the table that it came from
-pub trim-room : (rec : Record) (ws : List ℕ) → agrees rec ws ≡ true → (c : ℕ) → runsFor (leftAt rec ws c) ≤ length ws / 3
+pub trim-room : (rec : Record) (ws : List ℕ) → agrees rec ws ≡ true → (c : ℕ) → runsFor (unspentAt rec ws c) ≤ length ws / 3
 trim-room rec ws a c =
     let t = agree-shaped rec ws a in
     le-trans (left-fewer (rec .head) (max (rec .clock .0) c) (getD ws 0 0) (kept rec ws) (kept-join (rec .used) ws t))

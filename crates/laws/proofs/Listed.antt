@@ -11,6 +11,7 @@ use borrow.Author.Tests.{le-leb, eq-eqb, not-true}
 use lib.Dec.{leb}
 use lib.ListN.{length, getD, drop, length-drop, drop-of-length-le, getD-replicate}
 use lib.Seq.{getD-drop}
+use Rattle.units.specs.Exactly.{ExactlyWhen}
 use Rattle.units.specs.Limits.{largestTick, largestSpan}
 use Rattle.window.specs.declared.Head.{Head}
 use Rattle.window.specs.declared.Reference.{Reference}
@@ -19,19 +20,18 @@ use Rattle.window.specs.Window.{endOf, Spent, passed}
 use Rattle.window.specs.References.{Each, Sound}
 use Rattle.window.proofs.Spending.{passed-spent, spent-is}
 use Rattle.runs.specs.declared.Run.{Run}
-use Rattle.runs.specs.Words.{runsOf, runEnd, repeated, referencesOf, capacity}
-use Rattle.runs.specs.Shape.{follows, runsShaped, zeros, shaped}
-use Rattle.runs.specs.Joining.{lastEnd, Within}
-use Rattle.runs.proofs.Opening.{runs-length, runs-from, total, references-length}
+use Rattle.runs.specs.Words.{runsOf, runEnd, repeated, referencesOf, capacity, totalCount}
+use Rattle.runs.specs.Shape.{followedBy, runsShaped, zeros, shaped}
+use Rattle.runs.specs.Ends.{lastEnd, Within}
+use Rattle.runs.proofs.Opening.{runs-length, runs-from, references-length}
 use Rattle.runs.proofs.Encoded.{Leads, leads, led, shaped-drop, Fresh, Starts, fresh, starts, follow}
-use Rattle.runs.proofs.Joins.{kept-within, kept-end}
+use Rattle.runs.proofs.EndToStart.{kept-within, kept-end}
 use Rattle.runs.proofs.Tables.{zeros-are, used-fits, runs-shaped}
 use Rattle.agreement.specs.declared.Record.{Record}
 use Rattle.agreement.specs.Agreement.{kept, every, keptRight, agrees}
 use Rattle.agreement.proofs.Judging.{record-held}
 use Rattle.agreement.proofs.Agreeing.{agreeing, agrees-from}
-use Rattle.laws.specs.Demand2.{ExactlyWhen}
-use Rattle.laws.specs.Spent.{usedRun, totalCount, Agreeing}
+use Rattle.laws.specs.Spent.{usedRun, Agreeing}
 
 -- ---- each reference
 
@@ -82,13 +82,8 @@ words-zero (v ∷ vs) f = ap₂ _&&_ (eq-eqb v 0 (f 0 (omega arith))) (words-zer
 
 -- ---- the counts of runs
 
-counted : (n : ℕ) (ws : List ℕ) → totalCount n ws ≡ total (runsOf n ws)
-unfolding totalCount total runsOf
-counted zero ws = refl
-counted (suc n) ws = ap (λ (k : ℕ). getD ws 2 0 + k) (counted n (drop 3 ws))
-
-total-is : (n : ℕ) (ws : List ℕ) → totalCount n ws ≡ length (referencesOf (runsOf n ws))
-total-is n ws = counted n ws ∙ sym (references-length (runsOf n ws))
+total-is : (n : ℕ) (ws : List ℕ) → totalCount (runsOf n ws) ≡ length (referencesOf (runsOf n ws))
+total-is n ws = sym (references-length (runsOf n ws))
 
 -- ---- runs, one behind the other
 
@@ -145,11 +140,11 @@ module _ (n : ℕ) (ws : List ℕ) where
         repeated-ends largestTick (r .start .0) (r .span .0) (r .count) (counts i l)
         (each-front P (repeated (r .start .0) (r .span .0) (r .count)) (referencesOf (behind i)) there)
 
-    follows-at : (k i : ℕ) → i + suc k ≡ n → follows (usedRun ws i) (behind i) ≡ true
-    follows-at zero i e = ap (follows (usedRun ws i)) (last-is (i + 1) (omega arith))
+    follows-at : (k i : ℕ) → i + suc k ≡ n → followedBy (usedRun ws i) (behind i) ≡ true
+    follows-at zero i e = ap (followedBy (usedRun ws i)) (last-is (i + 1) (omega arith))
     follows-at (suc k) i e =
         let l : suc i < n = omega arith in
-        ap (follows (usedRun ws i)) (next-is i l) ∙
+        ap (followedBy (usedRun ws i)) (next-is i l) ∙
         follow (usedRun ws i) (usedRun ws (suc i) ∷ behind (suc i)) (differ i l) (sym (joins i l))
 
     shaped-from : (k i : ℕ) → i + k ≡ n → runsShaped (drop i (runsOf n ws)) ≡ true

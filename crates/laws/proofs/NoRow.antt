@@ -28,11 +28,11 @@ NoneHolds [] = Unit {0}
 NoneHolds (row ∷ rows) = (row .0 ≡ false) × NoneHolds rows
 
 -- no row has the number 0
-abbrev pub Numbered : List (Bool × ℕ) → Type 0
-Numbered [] = Unit {0}
-Numbered (row ∷ rows) = (1 ≤ row .1) × Numbered rows
+abbrev pub AllNumbered : List (Bool × ℕ) → Type 0
+AllNumbered [] = Unit {0}
+AllNumbered (row ∷ rows) = (1 ≤ row .1) × AllNumbered rows
 
-pub none-holds : (rows : List (Bool × ℕ)) → Numbered rows → lowest rows ≡ 0 → NoneHolds rows
+pub none-holds : (rows : List (Bool × ℕ)) → AllNumbered rows → lowest rows ≡ 0 → NoneHolds rows
 none-holds [] n e = tt
 none-holds (row ∷ rows) n e = go (row .0) refl (none-holds rows (n .1)) e
   where

@@ -1,6 +1,6 @@
 -- Demand 2 of availability: by the references themselves, each with its number.
 use mathlib.Core.Path.{_≡_, refl, sym, ap, ap₂, _∙_}
-use mathlib.Core.Bool.{Bool, true, false, cond, _&&_, and-eq-true-iff}
+use mathlib.Core.Bool.{Bool, true, false, cond, and-eq-true-iff, _&&_}
 use mathlib.Core.List.{List, [], _∷_, _++_}
 use Prim.Native.Nat.{ℕ, suc, _+_, _*_, _≤_, _<_}
 use native.Mathlib.Omega.{arith}
@@ -9,6 +9,7 @@ use lib.Dec.{eqb}
 use lib.IntN.{pos}
 use lib.ListN.{length}
 use lib.Signed.{leZ, ltZ}
+use Rattle.units.specs.Exactly.{ExactlyWhen}
 use Rattle.units.specs.declared.WideMillis.{WideMillis}
 use Rattle.units.specs.declared.WideNumber.{WideNumber}
 use Rattle.units.specs.Limits.{largestMillis}
@@ -26,7 +27,7 @@ use Rattle.answers.specs.Available as available
 use Rattle.answers.specs.Available.{keptNumber, availabilityOf, numberAvailability, availabilityIn, numberAvailable, availableIn}
 use Rattle.answers.proofs.Numbering as numbering
 use Rattle.answers.proofs.Counting.{some-of}
-use Rattle.laws.specs.Demand2.{ExactlyWhen, firstKept, numbered, grain, startsAt, endsAt, Offered}
+use Rattle.laws.specs.Demand2.{firstKept, wideNumber, grain, startsAt, endsAt, Offered}
 
 -- the reference behind `xs`
 number-at : (m : ℕ) (xs ys : List Reference) (r : Reference) → available.numbered m (xs ++ r ∷ ys) (m + length xs) ≡ Kept r
@@ -44,27 +45,27 @@ module _ (rec : Record) (ws : List ℕ) where
   available-disagreed n e = ap (λ t. cond t (numberAvailability (rec .head) (keptNumber rec ws (n .0))) (Refused Disagreement)) e
 
   module _ (a : agrees rec ws ≡ true) where
-    by-number : (n : ℕ) (x : Numbered) → keptNumber rec ws n ≡ x → availabilityIn rec ws (numbered n) ≡ numberAvailability (rec .head) x
+    by-number : (n : ℕ) (x : Numbered) → keptNumber rec ws n ≡ x → availabilityIn rec ws (wideNumber n) ≡ numberAvailability (rec .head) x
     by-number n x e = ap₂ (λ t y. cond t (numberAvailability (rec .head) y) (Refused Disagreement)) a e
 
-    pub not-kept : (n : ℕ) → ((i : ℕ) → i < length (kept rec ws) → n ≡ firstKept rec + i → ⊥) → availabilityIn rec ws (numbered n) ≡ Refused NotKept
+    pub not-kept : (n : ℕ) → ((i : ℕ) → i < length (kept rec ws) → n ≡ firstKept rec + i → ⊥) → availabilityIn rec ws (wideNumber n) ≡ Refused NotKept
     not-kept n o = by-number n Missing (number-none (firstKept rec) n (kept rec ws) o)
 
     module _ (xs ys : List Reference) (r : Reference) (e : kept rec ws ≡ xs ++ r ∷ ys) where
-      there : availabilityIn rec ws (numbered (firstKept rec + length xs)) ≡ availabilityOf (rec .head) r
+      there : availabilityIn rec ws (wideNumber (firstKept rec + length xs)) ≡ availabilityOf (rec .head) r
       there =
           by-number (firstKept rec + length xs) (Kept r)
           (ap (λ rs. available.numbered (firstKept rec) rs (firstKept rec + length xs)) e ∙ number-at (firstKept rec) xs ys r)
 
       pub available-ends : 1 ≤ rec .head .depth .0 →
-          availabilityIn rec ws (numbered (firstKept rec + length xs)) ≡ Ends (grain (startsAt (rec .head) r)) (grain (endsAt (rec .head) r))
+          availabilityIn rec ws (wideNumber (firstKept rec + length xs)) ≡ Ends (grain (startsAt (rec .head) r)) (grain (endsAt (rec .head) r))
       unfolding place
       available-ends d =
           there ∙
           ap (λ t. cond t (NeverEnds (grain (startsAt (rec .head) r))) (Ends (grain (startsAt (rec .head) r)) (grain (endsAt (rec .head) r))))
           (ne-eqb (rec .head .depth .0) 0 (λ z. let y : ⊥ = omega arith in y))
 
-      pub available-ever : rec .head .depth .0 ≡ 0 → availabilityIn rec ws (numbered (firstKept rec + length xs)) ≡ NeverEnds (grain (startsAt (rec .head) r))
+      pub available-ever : rec .head .depth .0 ≡ 0 → availabilityIn rec ws (wideNumber (firstKept rec + length xs)) ≡ NeverEnds (grain (startsAt (rec .head) r))
       unfolding place
       available-ever d =
           there ∙
@@ -73,7 +74,7 @@ module _ (rec : Record) (ws : List ℕ) where
 
       module _ (c : WideMillis) (l : c .0 ≤ largestMillis) where
         -- by the test
-        by-test : availableIn rec ws (numbered (firstKept rec + length xs)) c ≡ cond (available.available (rec .head) r (c .0)) Yes No
+        by-test : availableIn rec ws (wideNumber (firstKept rec + length xs)) c ≡ cond (available.available (rec .head) r (c .0)) Yes No
         by-test =
             ap₂ (λ t u. cond t (cond u (numberAvailable (rec .head) (c .0) (keptNumber rec ws (firstKept rec + length xs))) (at.Refused ClockLimit)) (at.Refused Disagreement)) a
             (le-leb (c .0) largestMillis l) ∙
@@ -102,7 +103,7 @@ module _ (rec : Record) (ws : List ℕ) where
         not-over true f o = refl
         not-over false f o = o .upto (some-of (rec .head .depth .0) f)
 
-        pub available-at : ExactlyWhen (availableIn rec ws (numbered (firstKept rec + length xs)) c ≡ Yes) (Offered (rec .head) r c)
+        pub available-at : ExactlyWhen (availableIn rec ws (wideNumber (firstKept rec + length xs)) c ≡ Yes) (Offered (rec .head) r c)
         unfolding place
         available-at =
             record {

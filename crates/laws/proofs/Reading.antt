@@ -13,6 +13,7 @@ use Rattle.timeline.specs.Opening.{openOutcome}
 use Rattle.frames.specs.declared.Frame.{Frame}
 use Rattle.frames.specs.declared.Frame.the-variants.{S, End}
 use Rattle.frames.specs.declared.SFields.{SFields}
+use Rattle.frames.specs.Language.{AllFit}
 use Rattle.frames.specs.Frames.{lineOf, frameOf}
 use Rattle.frames.proofs.Lines.{frame-written-read}
 use Rattle.file.specs.declared.Reading.{Reading as Read}
@@ -23,13 +24,12 @@ use Rattle.file.specs.Writing.{bytesOf}
 use Rattle.file.proofs.Back.{rest-of-frames}
 use Rattle.file.proofs.Never.{never-disagrees}
 use Rattle.file.proofs.Places.{narrow}
-use Rattle.laws.specs.Calls.{Call, Plain, State, after, run, allAccepted, clockOf, greatest}
+use Rattle.laws.specs.Calls.{Call, Plain, State, after, afterCalls, allAccepted, clockOf, greatest}
 use Rattle.laws.specs.History.{Holds}
 use Rattle.laws.specs.Lines.{openingTick, Result, accepted, judged, beginning, judgedFile}
-use Rattle.laws.specs.Reading.{fileFrames, AllFit, StandFor, openingOf, ReadsAs, IsFile, ReadingRight}
+use Rattle.laws.specs.Reading.{fileFrames, StandFor, openingOf, ReadsAs, IsFile, ReadingRight}
 use Rattle.laws.proofs.Histories.{demand-3}
 use Rattle.laws.proofs.Rows.{told}
-use Rattle.laws.proofs.Reach.{to-end}
 use Rattle.laws.proofs.NoRow.{number-accepted}
 use Rattle.laws.proofs.LineByLine.{readResult, none, same-way}
 use Rattle.laws.proofs.Bytes.{frames-again, AllFrames, AllNarrow, all-narrow, bytes-again}
@@ -98,7 +98,7 @@ module _ (bytes came : List ℕ) (h : Head) (s : SFields) (ss : List SFields) (c
   narrowed : AllNarrow (map S (s ∷ ss))
   narrowed = front (s ∷ ss) (End (length (s ∷ ss)) ∷ []) (fit-narrow (fileFrames h (s ∷ ss)) (f .fit) .1)
 
-  judged-as : judgedFile bytes came ≡ accepted (run (openingOf h s came) cs)
+  judged-as : judgedFile bytes came ≡ accepted (afterCalls (openingOf h s came) cs)
   judged-as =
       ap (λ b. judgedFile b came) (f .lines) ∙
       ap₂ (judged came (beginning came) 1) (frames-again (fileFrames h (s ∷ ss)) (f .fit)) (rest-of-frames (fileFrames h (s ∷ ss))) ∙
@@ -107,7 +107,7 @@ module _ (bytes came : List ℕ) (h : Head) (s : SFields) (ss : List SFields) (c
   file-accepted : readAnswer bytes came .outcome ≡ Accepted
   file-accepted = number-accepted (readAnswer bytes came .outcome) (number-is bytes came ∙ ap (λ (r : Result). r .number) judged-as)
 
-  file-answer : readAnswer bytes came ≡ record { outcome = Accepted; rec = run (openingOf h s came) cs .rec; line = 0 }
+  file-answer : readAnswer bytes came ≡ record { outcome = Accepted; rec = afterCalls (openingOf h s came) cs .rec; line = 0 }
   file-answer =
       _∙_ {b = record { outcome = Accepted; rec = readAnswer bytes came .rec; line = readAnswer bytes came .line }}
       (ap (λ o. record { outcome = o; rec = readAnswer bytes came .rec; line = readAnswer bytes came .line }) file-accepted)
@@ -115,7 +115,7 @@ module _ (bytes came : List ℕ) (h : Head) (s : SFields) (ss : List SFields) (c
       (record-is bytes came ∙ ap (λ (r : Result). r .rec) judged-as)
       (line-is bytes came ∙ ap (λ (r : Result). r .line) judged-as))
 
-  file-table : readTable bytes came ≡ run (openingOf h s came) cs .words
+  file-table : readTable bytes came ≡ afterCalls (openingOf h s came) cs .words
   file-table = words-are bytes came ∙ ap (λ (r : Result). r .words) judged-as
 
   file-plain : Plain cs
@@ -167,5 +167,4 @@ reading-right =
       rec = record-is;
       words = words-are;
       never-two = never-disagrees;
-      to-end = to-end;
     }

@@ -1,6 +1,6 @@
 -- An S line, judged by the reader: it is taken exactly where no row holds, and then it leaves what its append leaves; else the first row tells why.
 use mathlib.Core.Path.{_≡_, refl, sym, ap, ap₂, subst, _∙_}
-use mathlib.Core.Bool.{Bool, true, false, cond, true≢false}
+use mathlib.Core.Bool.{Bool, true, false, cond}
 use mathlib.Core.List.{List}
 use Prim.Native.Nat.{ℕ, _+_, _≤_}
 use native.Mathlib.Omega.{arith}
@@ -13,7 +13,6 @@ use Rattle.units.specs.declared.standing.Standing.{Standing}
 use Rattle.units.specs.declared.standing.Standing.the-variants.{Joins}
 use Rattle.units.specs.Limits.{largestSpan, tickOf}
 use Rattle.units.specs.Standing.{standingBy, tickStanding}
-use Rattle.window.specs.Place.{beforeEnd}
 use Rattle.runs.specs.Encoding.{canonical}
 use Rattle.runs.proofs.Tables.{canonical-length}
 use Rattle.agreement.specs.declared.refusal.Refusal.{Refusal}
@@ -22,35 +21,37 @@ use Rattle.agreement.specs.Numbers.{refusalNumber}
 use Rattle.keeping.specs.declared.Outcome.{Outcome}
 use Rattle.keeping.specs.declared.Outcome.the-variants as outcome
 use Rattle.keeping.specs.Keeping.{outcomeNumber, changedBy, wordsBy}
-use Rattle.keeping.specs.Joined.{leftOf, appended}
+use Rattle.keeping.specs.Append.{unspentOf, appended}
 use Rattle.timeline.specs.Appending.{appendOutcome}
 use Rattle.timeline.proofs.Kept.{taken, accepted-keeps}
+use Rattle.frames.specs.Fields.{allOnes}
 use Rattle.frames.specs.declared.SFields.{SFields}
 use Rattle.file.specs.declared.Stage.{Stage}
 use Rattle.file.specs.declared.Stage.the-variants.{Open, Filled, Refused}
 use Rattle.file.specs.declared.Reading.{Reading}
 use Rattle.file.specs.Least.{leastCount}
-use Rattle.file.specs.Judging.{File, settledReading, absent, firstTick, laterStanding, firstNegative, reachOutcome, appendedBy, reachesBy, takeS}
+use Rattle.file.proofs.Counts.{least-holds}
+use Rattle.file.specs.Judging.{File, settledReading, firstTick, laterStanding, firstNegative, reachOutcome, appendedBy, reachesBy, takeS}
 use Rattle.laws.specs.Calls.{State, byTick, after}
 use Rattle.laws.specs.Refusals.{lowest, appendRows}
-use Rattle.laws.specs.Lines.{startOf, openingTick, negative, countToEnd, countOf, callOf, reachRows, appendedRows}
+use Rattle.laws.specs.Lines.{startOf, openingTick, negative, countOf, callOf, reachRows, appendedRows}
 use Rattle.laws.proofs.Rows.{told}
 use Rattle.laws.proofs.Changing.{append}
-use Rattle.laws.proofs.Reach.{count-least, rows-past, same-count, reach-number}
+use Rattle.laws.proofs.Reach.{reach-number}
 use Rattle.laws.proofs.NoRow.{Reaches, reach-only}
 
 -- ---- where it starts
 
 -- a t that is absent joins
 pub later-stands : (s : SFields) (next : Tick) → laterStanding (s .t) next ≡ tickStanding (record { 0 = startOf (next .0) s }) next
-later-stands s next = go (eqb (s .t .0) absent)
+later-stands s next = go (eqb (s .t .0) allOnes)
   where
     go : (b : Bool) → cond b Joins (tickStanding (s .t) next) ≡ tickStanding (record { 0 = cond b (next .0) (s .t .0) }) next
     go true = sym (ap (λ b. standingBy b (ltb (next .0) (next .0))) (eq-eqb (next .0) (next .0) refl))
     go false = refl
 
 pub first-is : (s : SFields) → tickOf (firstTick (s .t)) ≡ openingTick s
-first-is s = go (eqb (s .t .0) absent)
+first-is s = go (eqb (s .t .0) allOnes)
   where
     go : (b : Bool) → _≡_ {A = Tick} (tickOf (cond b (record { 0 = 0 }) (s .t))) (record { 0 = cond b 0 (s .t .0) })
     go true = refl
@@ -58,7 +59,7 @@ first-is s = go (eqb (s .t .0) absent)
 
 -- the first S joins the timeline that it opens
 pub first-stands : (s : SFields) → Joins ≡ tickStanding (record { 0 = startOf (openingTick s .0) s }) (openingTick s)
-first-stands s = go (eqb (s .t .0) absent)
+first-stands s = go (eqb (s .t .0) allOnes)
   where
     same : (n : ℕ) → Joins ≡ tickStanding (record { 0 = n }) (record { 0 = n })
     same n = sym (ap (λ b. standingBy b (ltb n n)) (eq-eqb n n refl))
@@ -89,13 +90,13 @@ module _ (x : State) (s : SFields) (n : ℕ) (st : Stage) (agreed : agrees (x .r
   -- what is left where m references are appended
   left-is : (m : ℕ) → appendOutcome (x .rec) (x .words) standing (s .d) m ≡ outcome.Accepted →
       after x (byTick start (s .d) m) ≡
-      record { rec = appended (x .rec) (x .words) (s .d) m; words = canonical (length (x .words)) (leftOf (x .rec) (x .words) (s .d) m) }
+      record { rec = appended (x .rec) (x .words) (s .d) m; words = canonical (length (x .words)) (unspentOf (x .rec) (x .words) (s .d) m) }
   unfolding changedBy wordsBy
   left-is m e =
       ap
       (λ o. record {
         rec = changedBy o (appended (x .rec) (x .words) (s .d) m) (x .rec) .rec;
-        words = wordsBy o (canonical (length (x .words)) (leftOf (x .rec) (x .words) (s .d) m)) (x .words);
+        words = wordsBy o (canonical (length (x .words)) (unspentOf (x .rec) (x .words) (s .d) m)) (x .words);
       })
       e
 
@@ -107,19 +108,19 @@ module _ (x : State) (s : SFields) (n : ℕ) (st : Stage) (agreed : agrees (x .r
   by-outcome outcome.Accepted goal m e g f =
       let d = s .d in
       let o = f refl .1 in
-      let is : after x (callOf x s) ≡ record { rec = appended (x .rec) (x .words) d m; words = canonical (length (x .words)) (leftOf (x .rec) (x .words) d m) } =
+      let is : after x (callOf x s) ≡ record { rec = appended (x .rec) (x .words) d m; words = canonical (length (x .words)) (unspentOf (x .rec) (x .words) d m) } =
       ap (λ (k : ℕ). after x (byTick start d k)) (f refl .0) ∙ left-is m o
       in
       on e
       (ap₂ (λ (t : Stage) (y : State). record { reading = record { stage = t; lines = n + 1; rec = y .rec }; words = y .words }) (sym g) (sym is))
       (ap (λ (y : State). agrees (y .rec) (y .words)) is ∙ accepted-keeps (x .rec) (x .words) standing d m narrow o)
       (ap (λ (y : State). length (y .words)) is ∙
-      canonical-length (length (x .words)) (leftOf (x .rec) (x .words) d m) (taken (x .rec) (x .words) standing d m o .room))
+      canonical-length (length (x .words)) (unspentOf (x .rec) (x .words) d m) (taken (x .rec) (x .words) standing d m o .room))
   by-outcome (outcome.Refused why) goal m e g f = off why refl refl e
 
   -- the rows by the sign of r, with the count that goes with it
   abbrev countBy : Bool → ℕ
-  countBy b = cond b (countToEnd (x .rec .head) (x .rec .next .0) (s .d)) (s .r + 1)
+  countBy b = cond b (leastCount (x .rec .head) (x .rec .next .0) (s .d)) (s .r + 1)
 
   abbrev rowsBy : Bool → List (Bool × ℕ)
   rowsBy b =
@@ -143,23 +144,13 @@ module _ (x : State) (s : SFields) (n : ℕ) (st : Stage) (agreed : agrees (x .r
     -- accepted, it is an append of the count that the rows have
     negative-taken : reachOutcome (x .rec) (x .words) standing (s .d) searched ≡ outcome.Accepted →
         (countOf x s ≡ searched) × (appendOutcome (x .rec) (x .words) standing (s .d) searched ≡ outcome.Accepted)
-    negative-taken o = (
-      ap countBy e ∙ sym same,
-      ap (appendOutcome (x .rec) (x .words) standing (s .d)) same ∙ sym (told (appendOutcome (x .rec) (x .words) standing (s .d) (countBy true)) _ _) ∙ passed .taken,
-    )
+    negative-taken o = (ap countBy e, sym (told (appendOutcome (x .rec) (x .words) standing (s .d) searched) _ _) ∙ passed .taken)
       where
-        passed : Reaches x start (s .d) (countBy true) agreed narrow
+        passed : Reaches x start (s .d) searched agreed narrow
         passed =
-            reach-only x start (s .d) (countBy true) agreed narrow
-            (λ z. count-least (x .rec .head) (x .rec .next .0) (s .d) (omega (arith, eqb-false (s .d) 0 z)) .some)
+            reach-only x start (s .d) searched agreed narrow
+            (λ z. least-holds (x .rec .head) (x .rec .next .0) (s .d) (omega (arith, eqb-false (s .d) 0 z)) .some)
             (sym (reach-number x start (s .d) agreed narrow) ∙ ap outcomeNumber o)
-
-        begins : (b : Bool) → beforeEnd (x .rec .head) (x .rec .next .0) ≡ b → beforeEnd (x .rec .head) (x .rec .next .0) ≡ true
-        begins true f = f
-        begins false f = absurd (true≢false (sym (rows-past x start (s .d) agreed narrow (passed .lasts) f) ∙ passed .begins))
-
-        same : searched ≡ countBy true
-        same = same-count x start (s .d) agreed narrow (passed .lasts) (passed .known) (begins (beforeEnd (x .rec .head) (x .rec .next .0)) refl)
 
   -- the line by the sign of r
   by-sign : (c : Bool) → ltb (s .r) firstNegative ≡ c →

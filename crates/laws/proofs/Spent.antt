@@ -8,6 +8,7 @@ use native.Mathlib.Omega.{arith}
 use borrow.Author.Tests.{le-leb, le-ltb, ltb-false}
 use lib.Dec.{ltb}
 use lib.ListN.{length, getD}
+use Rattle.units.specs.Exactly.{ExactlyWhen}
 use Rattle.units.specs.declared.Millis.{Millis}
 use Rattle.units.specs.declared.WideMillis.{WideMillis}
 use Rattle.units.specs.declared.Tick.{Tick}
@@ -17,12 +18,12 @@ use Rattle.window.specs.declared.Head.{Head}
 use Rattle.window.specs.declared.Reference.{Reference}
 use Rattle.window.specs.Place.{endKnown, beforeEnd}
 use Rattle.window.specs.Window.{endOf, needed, Spent, passed}
-use Rattle.window.specs.References.{Joined, Each, Sound}
+use Rattle.window.specs.References.{EndToStart, Each, Sound}
 use Rattle.window.proofs.Spending.{passed-spent, yet-needed, spent-is}
 use Rattle.window.proofs.Unsigned.{endAt, placeN, lowN, cutN, highN, needed-is, before-is}
 use Rattle.runs.specs.Encoding.{runsFor, canonical}
-use Rattle.runs.specs.Joining.{lastEnd}
-use Rattle.runs.proofs.Joins.{join-append, each-append, repeated-join, kept-join, kept-within}
+use Rattle.runs.specs.Ends.{lastEnd}
+use Rattle.runs.proofs.EndToStart.{join-append, each-append, repeated-join, kept-join, kept-within}
 use Rattle.runs.proofs.Tables.{canonical-is, canonical-length, runs-for-kept}
 use Rattle.agreement.specs.declared.Record.{Record}
 use Rattle.agreement.specs.declared.refusal.Refusal.the-variants.{Disagreement, ClockLimit}
@@ -30,13 +31,12 @@ use Rattle.agreement.specs.Agreement.{kept, agrees}
 use Rattle.agreement.proofs.Agreeing as tests
 use Rattle.keeping.specs.declared.Outcome.the-variants.{Accepted, Refused}
 use Rattle.keeping.specs.Keeping.{unspent, changedBy, wordsBy}
-use Rattle.keeping.specs.Joined.{given}
+use Rattle.keeping.specs.Append.{given}
 use Rattle.keeping.proofs.Unspent.{unspent-every, unspent-few}
 use Rattle.timeline.specs.Appending.{appendOutcome}
-use Rattle.timeline.specs.Trimming.{leftAt, trimOutcome, trimmed, trimAnswer, trimTable}
+use Rattle.timeline.specs.Trimming.{unspentAt, trimOutcome, trimmed, trimAnswer, trimTable}
 use Rattle.timeline.proofs.Kept.{trim-keeps, taken, accepted-keeps}
 use Rattle.laws.specs.Calls.{State, trimAt, appendTo, after}
-use Rattle.laws.specs.Demand2.{ExactlyWhen}
 use Rattle.laws.specs.History.{StillNeeded, Picked, keptBy}
 use Rattle.laws.specs.Spent.{Keeps, OnlySpent}
 use Rattle.laws.proofs.Calling.{stateFrom, append-done, trim-done}
@@ -72,7 +72,7 @@ module _ (h : Head) (r : Reference) (c : ℕ) where
 
 -- ---- what a call keeps of joined references
 
-module _ (s : State) (t : ℕ) (all : List Reference) (joined : Joined t all) (rated : 1 ≤ s .rec .head .timescale .0) (sound : Each (Sound (s .rec .head)) all)
+module _ (s : State) (t : ℕ) (all : List Reference) (joined : EndToStart t all) (rated : 1 ≤ s .rec .head .timescale .0) (sound : Each (Sound (s .rec .head)) all)
     (c : Millis) (accepted : ℕ) (next : Tick) where
   abbrev left : List Reference
   left = unspent (s .rec .head) (c .0) all
@@ -135,14 +135,14 @@ module _ (rec : Record) (ws : List ℕ) (c : WideMillis) (a : agrees rec ws ≡ 
       ap₂ (λ x y. cond x (cond y Accepted (Refused ClockLimit)) (Refused Disagreement)) a
       (le-leb (c .0) largestMillis (omega (arith, facts .held .clock)))
 
-  none-gone : leftAt rec ws (c .0) ≡ kept rec ws
-  none-gone =
+  none-spent : unspentAt rec ws (c .0) ≡ kept rec ws
+  none-spent =
       ap (λ (m : ℕ). unspent (rec .head) m (kept rec ws)) (max-eq-left l) ∙ unspent-every (rec .head) (rec .clock .0) (kept rec ws) (facts .coming)
 
   same-record : trimmed rec ws (c .0) ≡ rec
   same-record =
       ap₂ (λ (m : ℕ) xs. record { head = rec .head; accepted = rec .accepted; dropped = rec .dropped + (length (kept rec ws) - length xs); next = rec .next; clock = record { 0 = m }; used = runsFor xs })
-      (max-eq-left l) none-gone ∙
+      (max-eq-left l) none-spent ∙
       ap₂ (λ (d u : ℕ). record { head = rec .head; accepted = rec .accepted; dropped = d; next = rec .next; clock = rec .clock; used = u })
       (omega arith) (runs-for-kept (rec .used) ws (facts .table))
 
@@ -150,16 +150,16 @@ module _ (rec : Record) (ws : List ℕ) (c : WideMillis) (a : agrees rec ws ≡ 
   unfolding changedBy wordsBy
   trim-earlier = (
     ap₂ (λ o r. changedBy o r rec) taken-up same-record,
-    ap₂ (λ o rs. wordsBy o (canonical (length ws) rs) ws) taken-up none-gone ∙ sym (canonical-is (rec .used) ws (facts .table)),
+    ap₂ (λ o rs. wordsBy o (canonical (length ws) rs) ws) taken-up none-spent ∙ sym (canonical-is (rec .used) ws (facts .table)),
   )
 
 -- ---- an append
 
 -- references that join from the next tick on join behind what is kept
-join-next : (t next : ℕ) (rs new : List Reference) → Joined t rs → lastEnd next rs ≡ next → Joined next new → (from : ℕ) × Joined from (rs ++ new)
+join-next : (t next : ℕ) (rs new : List Reference) → EndToStart t rs → lastEnd next rs ≡ next → EndToStart next new → (from : ℕ) × EndToStart from (rs ++ new)
 unfolding lastEnd
 join-next t next [] new j e k = (next, k)
-join-next t next (r ∷ rs) new j e k = (t, join-append t (r ∷ rs) new j (subst⁻¹ (λ (m : ℕ). Joined m new) e k))
+join-next t next (r ∷ rs) new j e k = (t, join-append t (r ∷ rs) new j (subst⁻¹ (λ (m : ℕ). EndToStart m new) e k))
 
 module _ (s : State) (st : Standing) (d n : ℕ) (o : appendOutcome (s .rec) (s .words) st d n ≡ Accepted) where
   append-keeping : d ≤ largestSpan → Keeps s (appendTo s st d n) (s .rec .clock .0) (keptBy s ++ given (s .rec) d n)

@@ -12,14 +12,15 @@ use Rattle.keeping.specs.declared.Outcome.the-variants.{Accepted}
 use Rattle.keeping.specs.Keeping.{outcomeNumber}
 use Rattle.timeline.proofs.Kept.{or-none}
 use Rattle.frames.specs.declared.SFields.{SFields}
+use Rattle.window.specs.Ticks.{LeastCount}
+use Rattle.file.specs.Least.{leastCount}
 use Rattle.file.specs.Judging.{firstNegative}
+use Rattle.file.proofs.Counts.{least-holds, least-is}
 use Rattle.laws.specs.Calls.{Call, byTick, State, outcomeOf}
-use Rattle.laws.specs.Demand2.{Least}
 use Rattle.laws.specs.Refusals.{lowest, appendRows}
-use Rattle.laws.specs.Lines.{startOf, negative, countToEnd, countOf, callOf, reachRows, appendedRows}
+use Rattle.laws.specs.Lines.{startOf, negative, countOf, callOf, reachRows, appendedRows}
 use Rattle.laws.specs.Reading.{StandsFor}
 use Rattle.laws.proofs.Changing.{append}
-use Rattle.laws.proofs.Reach.{count-least, to-end}
 use Rattle.laws.proofs.NoRow.{number-accepted, append-none, reach-only, reach-if}
 
 module _ (x : State) (s : SFields) (agreed : agrees (x .rec) (x .words) ≡ true) (narrow : s .d ≤ largestSpan) where
@@ -34,13 +35,13 @@ module _ (x : State) (s : SFields) (agreed : agrees (x .rec) (x .words) ≡ true
       (appendRows (x .rec) (x .words) (ltb (x .rec .next .0) (start .0)) (ltb (start .0) (x .rec .next .0)) (s .d) n))
 
   abbrev toEnd : ℕ
-  toEnd = countToEnd (x .rec .head) (x .rec .next .0) (s .d)
+  toEnd = leastCount (x .rec .head) (x .rec .next .0) (s .d)
 
   abbrev countBy : Bool → ℕ
   countBy b = cond b toEnd (s .r + 1)
 
-  least : eqb (s .d) 0 ≡ false → Least (x .rec .head) (x .rec .next .0) (s .d) toEnd
-  least z = count-least (x .rec .head) (x .rec .next .0) (s .d) (omega (arith, eqb-false (s .d) 0 z))
+  least : eqb (s .d) 0 ≡ false → LeastCount (x .rec .head) (x .rec .next .0) (s .d) toEnd
+  least z = least-holds (x .rec .head) (x .rec .next .0) (s .d) (omega (arith, eqb-false (s .d) 0 z))
 
   not-below : negative s ≡ true → {A : Type 0} → s .r < firstNegative → A
   not-below e l = absurd (false≢true (sym (lt-leb firstNegative (s .r) l) ∙ e))
@@ -68,7 +69,7 @@ module _ (x : State) (s : SFields) (agreed : agrees (x .rec) (x .words) ≡ true
               record {
                 more = not-below e;
                 known = λ l. omega (arith, eqb-false (x .rec .head .duration .0) 0 (r .known));
-                least = λ l. subst⁻¹ (Least (x .rec .head) (x .rec .next .0) (s .d)) is (least (r .lasts));
+                least = λ l. subst⁻¹ (LeastCount (x .rec .head) (x .rec .next .0) (s .d)) is (least (r .lasts));
               },
               refl,
             ),
@@ -89,7 +90,7 @@ module _ (x : State) (s : SFields) (agreed : agrees (x .rec) (x .words) ≡ true
       count : (b : Bool) → negative s ≡ b → n ≡ countOf x s
       count false b = g .more (leb-false firstNegative (s .r) b) ∙ sym (ap countBy b)
       count true b =
-          to-end (x .rec .head) (x .rec .next .0) (s .d) n lasts .if (g .least (leb-true firstNegative (s .r) b)) ∙ sym (ap countBy b)
+          least-is (x .rec .head) (x .rec .next .0) (s .d) lasts n (g .least (leb-true firstNegative (s .r) b)) ∙ sym (ap countBy b)
 
       counted : outcomeOf x (callOf x s) ≡ Accepted
       counted = subst (λ (m : ℕ). outcomeOf x (byTick start (s .d) m) ≡ Accepted) (count (negative s) refl) taken

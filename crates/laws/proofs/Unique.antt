@@ -63,7 +63,7 @@ entries =
       agrees = record { any = λ κs a. tt; one = λ κs a x y e f p q. same p q };
       record-held = record { any = λ κs a. tt; one = λ κs a x y e f p q. same p q };
       counts-held = record { any = λ κs a. tt; one = λ κs a x y e f p q. same p q };
-      is-reached = record { any = λ κs a. tt; one = λ κs a x y e f p q. same p q };
+      is-passed = record { any = λ κs a. tt; one = λ κs a x y e f p q. same p q };
       refusal-number = record { any = λ κs a. tt; one = λ κs a x y e f p q. same p q };
       head-held = record { any = λ κs a. tt; one = λ κs a x y e f p q. same p q };
       head-new = record { any = λ κs a. tt; one = λ κs a x y e f p q. same p q };
@@ -93,7 +93,7 @@ inner =
     record {
       append-joined = λ κs a x y e f p q. same (p .0) (q .0);
       append-joined-words = λ κs a x y e f p q. same (p .1) (q .1);
-      gone-in = λ κs a x y e f p q. same p q;
+      count-passed = λ κs a x y e f p q. same p q;
       write-line = λ κs a x y e f p q. same (p .long) (q .long);
       write-line-words = λ κs a x y e f p q. same (p .bytes) (q .bytes);
       number = λ κs a x y e f p q. same p q;
@@ -103,8 +103,8 @@ inner =
       needed-whole = λ κs a x y e f p q. one-needed _ _ x y p q;
       least-count = λ κs a x y e f p q. one-least _ _ _ x y p q;
       run-at = λ κs a x y e f p q. same p q;
-      ended-in = λ κs a x y e f p q. same p q;
-      ended-by = λ κs a x y e f p q. same p q;
+      passed-in = λ κs a x y e f p q. same p q;
+      passed-upto = λ κs a x y e f p q. same p q;
       needs-run = λ κs a x y e f p q. same p q;
       drop-front = λ κs a x y e f p q. same (p .0) (q .0);
       drop-front-words = λ κs a x y e f p q. same (p .1) (q .1);

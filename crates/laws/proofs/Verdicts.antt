@@ -7,6 +7,7 @@ use Prim.Native.Nat.{ℕ, _≤_}
 use native.Mathlib.Omega.{arith}
 use borrow.Author.Tests.{eqb-true, eq-eqb, ne-eqb, leb-true, leb-false, le-leb, lt-leb, not-true, not-false}
 use lib.Dec.{eqb, leb}
+use Rattle.units.specs.Exactly.{ExactlyWhen}
 use Rattle.units.specs.Limits.{largestMillis, clockHeld}
 use Rattle.units.specs.declared.WideMillis.{WideMillis}
 use Rattle.units.specs.declared.WideTick.{WideTick}
@@ -30,7 +31,7 @@ use Rattle.answers.proofs.Counting.{some-of, apart, refuted, any-count, count-n
 use Rattle.answers.proofs.Cases.{to-complete, to-lacking, by-count, asked-at, by-asked-at, asked-whole, by-asked-whole}
 use Rattle.answers.proofs.Covering.{needed-below}
 use Rattle.answers.proofs.Completeness.{complete-exactly, percent-at, percent-whole, lowest-lacks}
-use Rattle.laws.specs.Demand2.{ExactlyWhen, Many, Completes, Lacks, NeedsNone, Asked, AskedWhole, NotAsked, disagree, over, early, NotAskedWhole, disagreeing, unknown, atClock, inWhole}
+use Rattle.laws.specs.Demand2.{Many, Completes, Lacks, NeedsNone, MayAsk, MayAskWhole, MayNotAsk, disagree, over, early, MayNotAskWhole, disagreeing, unknown, atClock, inWhole}
 
 -- ---- a verdict by its counts, and back
 
@@ -188,51 +189,51 @@ module _ (rec : Record) (ws : List ℕ) where
       refused-never (neededCount (rec .head) w) (coveredCount (rec .head) w (kept rec ws)) (lowestLacking (rec .head) w (kept rec ws))
 
   module _ (c : WideMillis) where
-    asked-only : (t : Verdict) → isRefused t ≡ false → verdictAt rec ws c ≡ t → Asked rec ws c × (of-window (atClock rec c) ≡ t)
+    asked-only : (t : Verdict) → isRefused t ≡ false → verdictAt rec ws c ≡ t → MayAsk rec ws c × (of-window (atClock rec c) ≡ t)
     unfolding of-window
     asked-only t o =
-        by-asked-at rec ws c (λ v. v ≡ t → Asked rec ws c × (of-window (atClock rec c) ≡ t)) (λ a. refused-no t o Disagreement)
+        by-asked-at rec ws c (λ v. v ≡ t → MayAsk rec ws c × (of-window (atClock rec c) ≡ t)) (λ a. refused-no t o Disagreement)
         (λ a m. refused-no t o ClockLimit)
         (λ a m l. refused-no t o EarlierClock)
         (λ a m l q. (record { agreed = a; limit = leb-true (c .0) largestMillis m; later = leb-true (rec .clock .0) (c .0) l }, q))
 
-    asked-if : Asked rec ws c → verdictAt rec ws c ≡ of-window (atClock rec c)
+    asked-if : MayAsk rec ws c → verdictAt rec ws c ≡ of-window (atClock rec c)
     unfolding of-window
     asked-if a = asked-at rec ws c (a .agreed) (le-leb (c .0) largestMillis (a .limit)) (le-leb (rec .clock .0) (c .0) (a .later))
 
-    pub complete-at : (n : ℕ) → ExactlyWhen (verdictAt rec ws c ≡ Complete n) (Asked rec ws c × Completes (rec .head) (atClock rec c) (kept rec ws) n)
+    pub complete-at : (n : ℕ) → ExactlyWhen (verdictAt rec ws c ≡ Complete n) (MayAsk rec ws c × Completes (rec .head) (atClock rec c) (kept rec ws) n)
     unfolding of-window isRefused
     complete-at n =
         let here = completes (rec .head) (atClock rec c) (kept rec ws) n in
         record { only = λ e. let a = asked-only (Complete n) refl e in (a .0, here .only (a .1)); if = λ p. asked-if (p .0) ∙ here .if (p .1) }
 
-    pub lacking-at : (n m : ℕ) (k : WideTick) → ExactlyWhen (verdictAt rec ws c ≡ Lacking n m k) (Asked rec ws c × Lacks (rec .head) (atClock rec c) (kept rec ws) n m (k .0))
+    pub lacking-at : (n m : ℕ) (k : WideTick) → ExactlyWhen (verdictAt rec ws c ≡ Lacking n m k) (MayAsk rec ws c × Lacks (rec .head) (atClock rec c) (kept rec ws) n m (k .0))
     unfolding of-window isRefused
     lacking-at n m k =
         let here = lacks (rec .head) (atClock rec c) (kept rec ws) n m k in
         record { only = λ e. let a = asked-only (Lacking n m k) refl e in (a .0, here .only (a .1)); if = λ p. asked-if (p .0) ∙ here .if (p .1) }
 
-    pub nothing-at : ExactlyWhen (verdictAt rec ws c ≡ Nothing) (Asked rec ws c × NeedsNone (rec .head) (atClock rec c))
+    pub nothing-at : ExactlyWhen (verdictAt rec ws c ≡ Nothing) (MayAsk rec ws c × NeedsNone (rec .head) (atClock rec c))
     unfolding of-window isRefused
     nothing-at =
         let here = needs-none (rec .head) (atClock rec c) (kept rec ws) in
         record { only = λ e. let a = asked-only Nothing refl e in (a .0, here .only (a .1)); if = λ p. asked-if (p .0) ∙ here .if (p .1) }
 
-    pub refused-at : (why : Refusal) → ExactlyWhen (verdictAt rec ws c ≡ Refused why) (NotAsked rec ws c why)
+    pub refused-at : (why : Refusal) → ExactlyWhen (verdictAt rec ws c ≡ Refused why) (MayNotAsk rec ws c why)
     unfolding of-window
     refused-at why =
         record {
           only =
-              by-asked-at rec ws c (λ v. v ≡ Refused why → NotAsked rec ws c why)
-              (λ a q. subst (NotAsked rec ws c) (same-refusal Disagreement why q) (disagree a))
-              (λ a m q. subst (NotAsked rec ws c) (same-refusal ClockLimit why q) (over a (leb-false (c .0) largestMillis m)))
+              by-asked-at rec ws c (λ v. v ≡ Refused why → MayNotAsk rec ws c why)
+              (λ a q. subst (MayNotAsk rec ws c) (same-refusal Disagreement why q) (disagree a))
+              (λ a m q. subst (MayNotAsk rec ws c) (same-refusal ClockLimit why q) (over a (leb-false (c .0) largestMillis m)))
               (λ a m l q.
-              subst (NotAsked rec ws c) (same-refusal EarlierClock why q) (early a (leb-true (c .0) largestMillis m) (leb-false (rec .clock .0) (c .0) l)))
+              subst (MayNotAsk rec ws c) (same-refusal EarlierClock why q) (early a (leb-true (c .0) largestMillis m) (leb-false (rec .clock .0) (c .0) l)))
               (λ a m l q. absurd (never-refused (atClock rec c) why q));
           if = back;
         }
       where
-        back : {x : Refusal} → NotAsked rec ws c x → verdictAt rec ws c ≡ Refused x
+        back : {x : Refusal} → MayNotAsk rec ws c x → verdictAt rec ws c ≡ Refused x
         back (disagree e) =
             ap
             (λ s. cond s (cond (clockHeld c) (cond (leb (rec .clock .0) (c .0)) (of-window (atClock rec c)) (Refused EarlierClock)) (Refused ClockLimit)) (Refused Disagreement))
@@ -251,50 +252,50 @@ module _ (rec : Record) (ws : List ℕ) where
 
   -- ---- of the whole period
 
-  whole-only : (t : Verdict) → isRefused t ≡ false → verdictWhole rec ws ≡ t → AskedWhole rec ws × (of-window (inWhole rec) ≡ t)
+  whole-only : (t : Verdict) → isRefused t ≡ false → verdictWhole rec ws ≡ t → MayAskWhole rec ws × (of-window (inWhole rec) ≡ t)
   unfolding of-window
   whole-only t o =
-      by-asked-whole rec ws (λ v. v ≡ t → AskedWhole rec ws × (of-window (inWhole rec) ≡ t)) (λ a. refused-no t o Disagreement)
+      by-asked-whole rec ws (λ v. v ≡ t → MayAskWhole rec ws × (of-window (inWhole rec) ≡ t)) (λ a. refused-no t o Disagreement)
       (λ a k. refused-no t o EndUnknown)
       (λ a k q. (record { agreed = a; known = some-of (rec .head .duration .0) (not-true (eqb (rec .head .duration .0) 0) k) }, q))
 
-  whole-if : AskedWhole rec ws → verdictWhole rec ws ≡ of-window (inWhole rec)
+  whole-if : MayAskWhole rec ws → verdictWhole rec ws ≡ of-window (inWhole rec)
   unfolding of-window
   whole-if a = asked-whole rec ws (a .agreed) (ap not (ne-eqb (rec .head .duration .0) 0 (apart (rec .head .duration .0) (a .known))))
 
-  pub complete-whole : (n : ℕ) → ExactlyWhen (verdictWhole rec ws ≡ Complete n) (AskedWhole rec ws × Completes (rec .head) (inWhole rec) (kept rec ws) n)
+  pub complete-whole : (n : ℕ) → ExactlyWhen (verdictWhole rec ws ≡ Complete n) (MayAskWhole rec ws × Completes (rec .head) (inWhole rec) (kept rec ws) n)
   unfolding of-window isRefused
   complete-whole n =
       let here = completes (rec .head) (inWhole rec) (kept rec ws) n in
       record { only = λ e. let a = whole-only (Complete n) refl e in (a .0, here .only (a .1)); if = λ p. whole-if (p .0) ∙ here .if (p .1) }
 
-  pub lacking-whole : (n m : ℕ) (k : WideTick) → ExactlyWhen (verdictWhole rec ws ≡ Lacking n m k) (AskedWhole rec ws × Lacks (rec .head) (inWhole rec) (kept rec ws) n m (k .0))
+  pub lacking-whole : (n m : ℕ) (k : WideTick) → ExactlyWhen (verdictWhole rec ws ≡ Lacking n m k) (MayAskWhole rec ws × Lacks (rec .head) (inWhole rec) (kept rec ws) n m (k .0))
   unfolding of-window isRefused
   lacking-whole n m k =
       let here = lacks (rec .head) (inWhole rec) (kept rec ws) n m k in
       record { only = λ e. let a = whole-only (Lacking n m k) refl e in (a .0, here .only (a .1)); if = λ p. whole-if (p .0) ∙ here .if (p .1) }
 
-  pub nothing-whole : ExactlyWhen (verdictWhole rec ws ≡ Nothing) (AskedWhole rec ws × NeedsNone (rec .head) (inWhole rec))
+  pub nothing-whole : ExactlyWhen (verdictWhole rec ws ≡ Nothing) (MayAskWhole rec ws × NeedsNone (rec .head) (inWhole rec))
   unfolding of-window isRefused
   nothing-whole =
       let here = needs-none (rec .head) (inWhole rec) (kept rec ws) in
       record { only = λ e. let a = whole-only Nothing refl e in (a .0, here .only (a .1)); if = λ p. whole-if (p .0) ∙ here .if (p .1) }
 
-  pub refused-whole : (why : Refusal) → ExactlyWhen (verdictWhole rec ws ≡ Refused why) (NotAskedWhole rec ws why)
+  pub refused-whole : (why : Refusal) → ExactlyWhen (verdictWhole rec ws ≡ Refused why) (MayNotAskWhole rec ws why)
   unfolding of-window
   refused-whole why =
       record {
         only =
-            by-asked-whole rec ws (λ v. v ≡ Refused why → NotAskedWhole rec ws why)
-            (λ a q. subst (NotAskedWhole rec ws) (same-refusal Disagreement why q) (disagreeing a))
+            by-asked-whole rec ws (λ v. v ≡ Refused why → MayNotAskWhole rec ws why)
+            (λ a q. subst (MayNotAskWhole rec ws) (same-refusal Disagreement why q) (disagreeing a))
             (λ a k q.
-            subst (NotAskedWhole rec ws) (same-refusal EndUnknown why q)
+            subst (MayNotAskWhole rec ws) (same-refusal EndUnknown why q)
             (unknown a (eqb-true (rec .head .duration .0) 0 (not-false (eqb (rec .head .duration .0) 0) k))))
             (λ a k q. absurd (never-refused (inWhole rec) why q));
         if = back;
       }
     where
-      back : {x : Refusal} → NotAskedWhole rec ws x → verdictWhole rec ws ≡ Refused x
+      back : {x : Refusal} → MayNotAskWhole rec ws x → verdictWhole rec ws ≡ Refused x
       back (disagreeing e) = ap (λ s. cond s (cond (endKnown (rec .head)) (of-window (inWhole rec)) (Refused EndUnknown)) (Refused Disagreement)) e
       back (unknown e f) =
           ap₂ (λ s t. cond s (cond (not t) (of-window (inWhole rec)) (Refused EndUnknown)) (Refused Disagreement)) e (eq-eqb (rec .head .duration .0) 0 f)

@@ -23,7 +23,7 @@ use Rattle.frames.specs.Frames.{kindOf}
 use Rattle.file.specs.declared.Stage.the-variants.{Open}
 use Rattle.file.specs.Judging.{File, firstNegative}
 use Rattle.file.specs.Sound.{Narrow}
-use Rattle.laws.specs.Calls.{Call, State, after, run, opening, outcomeOf}
+use Rattle.laws.specs.Calls.{Call, State, after, afterCalls, opening, outcomeOf}
 use Rattle.laws.specs.Refusals.{lowest, overLimit}
 use Rattle.laws.specs.Lines.{openingTick, negative, callOf, Place, afterHead, afterS, afterNegative, afterEnd, among, Sofar, appendedRows, stopRows, fieldRows, lineRows, taking, Result, accepted, refusedAt, unlessRefused, judged, beginning}
 use Rattle.laws.specs.Reading.{fileFrames, NegativeLast, StandsFor, StandFor, AllAccepted}
@@ -291,8 +291,8 @@ head-row came h t o = head-number came h true (and-eq-true-iff (headHeld h) (tic
 
 module _ (came : List ℕ) (h : Head) where
   running-if : (ss : List SFields) (cs : List Call) (k : ℕ) (x : State) (line : ℕ) → agrees (x .rec) (x .words) ≡ true → AllNarrow (map S ss) → NegativeLast ss →
-      StandFor x ss cs → AllAccepted x cs → judged came (at afterS h (k + 1) x) line (map S ss ++ End (k + 1 + length ss) ∷ []) [] ≡ accepted (run x cs)
-  unfolding run
+      StandFor x ss cs → AllAccepted x cs → judged came (at afterS h (k + 1) x) line (map S ss ++ End (k + 1 + length ss) ∷ []) [] ≡ accepted (afterCalls x cs)
+  unfolding afterCalls
   running-if [] [] k x line a w l st ok = ap (λ (j : ℕ). judged came (at afterS h (k + 1) x) line (End j ∷ []) []) (omega arith) ∙ end-if came h false (k + 1) x line
   running-if [] (c ∷ cs) k x line a w l st ok = absurd st
   running-if (s ∷ ss) [] k x line a w l st ok = absurd st
@@ -306,12 +306,12 @@ module _ (came : List ℕ) (h : Head) where
       either-sign came h (negative s) ss (k + 1 + 1) y (line + 1) (negative-last s ss l) ∙
       running-if ss cs (k + 1) y (line + 1) (s-agrees x s a (w .0) (is .1)) (w .1) (last-more s ss l) (subst (λ d. StandFor (after x d) ss cs) (is .0) (st .1))
       (subst (λ d. AllAccepted (after x d) cs) (is .0) (ok .1)) ∙
-      ap (λ d. accepted (run (after x d) cs)) (sym (is .0))
+      ap (λ d. accepted (afterCalls (after x d) cs)) (sym (is .0))
 
   pub whole-if : (s : SFields) (ss : List SFields) (cs : List Call) → AllNarrow (map S (s ∷ ss)) → NegativeLast (s ∷ ss) → openOutcome h (openingTick s) ≡ Accepted →
       StandFor (opening h (openingTick s) came) (s ∷ ss) cs → AllAccepted (opening h (openingTick s) came) cs →
-      judged came (beginning came) 1 (fileFrames h (s ∷ ss)) [] ≡ accepted (run (opening h (openingTick s) came) cs)
-  unfolding run
+      judged came (beginning came) 1 (fileFrames h (s ∷ ss)) [] ≡ accepted (afterCalls (opening h (openingTick s) came) cs)
+  unfolding afterCalls
   whole-if s ss [] w l o st ok = absurd st
   whole-if s ss (c ∷ cs) w l o st ok =
       let x = opening h (openingTick s) came in
@@ -327,4 +327,4 @@ module _ (came : List ℕ) (h : Head) where
       either-sign came h (negative s) ss 1 y 3 (negative-last s ss l) ∙
       running-if ss cs 0 y 3 (s-agrees x s a (w .0) (is .1)) (w .1) (last-more s ss l) (subst (λ d. StandFor (after x d) ss cs) (is .0) (st .1))
       (subst (λ d. AllAccepted (after x d) cs) (is .0) (ok .1)) ∙
-      ap (λ d. accepted (run (after x d) cs)) (sym (is .0))
+      ap (λ d. accepted (afterCalls (after x d) cs)) (sym (is .0))

@@ -27,7 +27,7 @@ use Rattle.answers.specs.declared.Availability.the-variants.{Ends, NeverEnds}
 use Rattle.answers.specs.Judgement.{verdictAt, verdictWhole}
 use Rattle.answers.specs.Shares.{verdictPercent}
 use Rattle.answers.specs.Available.{availabilityIn}
-use Rattle.frames.specs.Worked.{bytesOf}
+use Rattle.hex.specs.Ascii.{ascii}
 use Rattle.file.specs.declared.WriteAnswer.the-variants.{Written}
 use Rattle.file.specs.Judging.{readAnswer, readTable}
 use Rattle.file.specs.Writing.{writeAnswer, writeNumber}
@@ -134,10 +134,10 @@ trimB3 = trimming trimB2 18_000
 
 -- B as a file after those trims: three lines, each ended by a line feed
 abbrev pub headLineB : List ℕ
-headLineB = bytesOf "01000003e8000000000000000000000000000000000000000000000000000000000000271000000003"
+headLineB = ascii "01000003e8000000000000000000000000000000000000000000000000000000000000271000000003"
 
 abbrev pub fileB : List ℕ
-fileB = headLineB ++ 10 ∷ bytesOf "020000000000001f4000000fa000000002" ++ 10 ∷ bytesOf "0300000001" ++ 10 ∷ []
+fileB = headLineB ++ 10 ∷ ascii "020000000000001f4000000fa000000002" ++ 10 ∷ ascii "0300000001" ++ 10 ∷ []
 
 -- C: the next tick, as the first tick of an opening
 abbrev pub nextC : Tick
@@ -165,11 +165,11 @@ twoD = appending oneD 1 1 1
 -- D as a file: its one S line has duration 1 and r of -1
 abbrev pub fileD : List ℕ
 fileD =
-    bytesOf "01000000030000000000000000000000000000000000000000000001f4000000000000000000000000" ++
+    ascii "01000000030000000000000000000000000000000000000000000001f4000000000000000000000000" ++
     10 ∷
-    bytesOf "02000000000000000000000001ffffffff" ++
+    ascii "02000000000000000000000001ffffffff" ++
     10 ∷
-    bytesOf "0300000001" ++
+    ascii "0300000001" ++
     10 ∷
     []
 

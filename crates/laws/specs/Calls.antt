@@ -16,7 +16,7 @@ use Rattle.runs.specs.Words.{repeated}
 use Rattle.agreement.specs.declared.Record.{Record}
 use Rattle.keeping.specs.declared.Outcome.{Outcome}
 use Rattle.keeping.specs.declared.Outcome.the-variants.{Accepted, Refused}
-use Rattle.keeping.specs.Joined.{given}
+use Rattle.keeping.specs.Append.{given}
 use Rattle.timeline.specs.Opening.{openAnswer, openTable}
 use Rattle.timeline.specs.Appending.{appendAnswer, appendTable}
 use Rattle.timeline.specs.Trimming.{trimAnswer, trimTable}
@@ -53,9 +53,9 @@ after s (byTick t d n) = appendTo s (tickStanding t (s .rec .next)) d n
 after s (byStamp t d n) = appendTo s (stampStanding t (s .rec .next)) d n
 after s (trimAt c) = record { rec = trimAnswer (s .rec) (s .words) c .rec; words = trimTable (s .rec) (s .words) c }
 
-unfoldable pub run : State → List Call → State
-run s [] = s
-run s (c ∷ cs) = run (after s c) cs
+unfoldable pub afterCalls : State → List Call → State
+afterCalls s [] = s
+afterCalls s (c ∷ cs) = afterCalls (after s c) cs
 
 -- ---- what was accepted
 

@@ -11,8 +11,7 @@ use Rattle.units.specs.declared.WideMillis.{WideMillis}
 use Rattle.units.specs.declared.WideNumber.{WideNumber}
 use Rattle.units.specs.declared.NumberMade.the-variants as made-number
 use Rattle.units.specs.declared.standing.Standing.{Standing}
-use Rattle.units.specs.Limits.{largestTick, largestMillis, largestTimescale, largestSpan, largestNumber}
-use Rattle.units.specs.Limits.{tickMade, millisMade, timescaleMade, spanMade, numberMade, tickOf}
+use Rattle.units.specs.Limits.{largestTick, largestMillis, largestTimescale, largestSpan, largestNumber, tickMade, millisMade, timescaleMade, spanMade, numberMade, tickOf}
 use Rattle.units.specs.Limits.{tickNumber, millisNumber, clockNumber, timescaleNumber, spanNumber, firstNumber, askedNumber}
 use Rattle.units.specs.Standing.{standingNumber}
 use Rattle.window.specs.declared.HeadFields.{HeadFields}
@@ -20,7 +19,7 @@ use Rattle.window.specs.Limits.{headOf, headMade, headNumber}
 use Rattle.agreement.specs.declared.Record.{Record}
 use Rattle.agreement.specs.Agreement.{agrees}
 use Rattle.keeping.specs.Keeping.{outcomeNumber}
-use Rattle.keeping.specs.Joined.{fitOutcome}
+use Rattle.keeping.specs.Append.{fitOutcome}
 use Rattle.timeline.specs.Opening.{openAnswer}
 use Rattle.timeline.specs.Appending.{appendAnswer}
 use Rattle.timeline.specs.Trimming.{trimAnswer}

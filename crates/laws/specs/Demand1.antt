@@ -44,13 +44,13 @@ use Rattle.laws.specs.Unique.{AnyInput}
 -- ---- what is said of an answer
 
 -- its number is that of the first row that holds, and where that refuses, this is left
-pub record Numbered (n : ℕ) (rows : List (Bool × ℕ)) (left : Type 0) : Type 0 where
+pub record GivesNumber (n : ℕ) (rows : List (Bool × ℕ)) (left : Type 0) : Type 0 where
   pub number : n ≡ lowest rows
   pub refused : (n ≡ 0 → ⊥) → left
 
 -- a call that changes: refused, it answers this record and leaves these words
 abbrev pub Changes : Changed → List ℕ → List (Bool × ℕ) → Record → List ℕ → Type 0
-Changes x after rows rec ws = Numbered (outcomeNumber (x .outcome)) rows ((x .rec ≡ rec) × (after ≡ ws))
+Changes x after rows rec ws = GivesNumber (outcomeNumber (x .outcome)) rows ((x .rec ≡ rec) × (after ≡ ws))
 
 -- an answer is a refusal and nothing else
 abbrev pub Only : {A : Type 0} → (Refusal → A) → A → Type 0
@@ -89,7 +89,7 @@ lengthRows ws out size rows = recordRows ws ((not (eqb (length out) size), 15) �
 
 -- a call that changes: refused, record and table as they came
 abbrev pub ChangesFromC : ℕ → List ℕ → List ℕ → List ℕ → List ℕ → List (Bool × ℕ) → Type 0
-ChangesFromC n ws ts ws-after ts-after rows = Numbered n (recordRows ws rows) ((ws-after ≡ ws) × (ts-after ≡ ts))
+ChangesFromC n ws ts ws-after ts-after rows = GivesNumber n (recordRows ws rows) ((ws-after ≡ ws) × (ts-after ≡ ts))
 
 -- an opening: a record of another length stays as it came, and one of 11 words is zeroed where a field is over its limit
 pub record OpensFromC (n : ℕ) (ws ts : List ℕ) (h : Head) (tick : ℕ) (ws-after ts-after : List ℕ) : Type 0 where
@@ -99,7 +99,7 @@ pub record OpensFromC (n : ℕ) (ws ts : List ℕ) (h : Head) (tick : ℕ) (ws-a
 
 -- a call that looks: refused, out as it came
 abbrev pub TellsC : {A : Type 0} → ℕ → List ℕ → ℕ → List (Bool × ℕ) → List A → List A → Type 0
-TellsC n ws size rows out out-after = Numbered n (lengthRows ws out size rows) (out-after ≡ out)
+TellsC n ws size rows out out-after = GivesNumber n (lengthRows ws out size rows) (out-after ≡ out)
 
 -- a reading: lengths that are not right leave all as it came; else number and line are the file's, and a refused file leaves zeros
 pub record ReadsFromC (bytes : List ℕ) (n : ℕ) (ws ts out ws-after ts-after out-after : List ℕ) : Type 0 where
@@ -133,15 +133,15 @@ pub record Demand1 : Type 0 where
       (λ κs a x e. Changes x (now (e .1 .0)) (trimRows (a .0) (now (a .1 .0)) (a .1 .1 .0)) (a .0) (now (a .1 .0)))
   -- the calls that look: record, table, and what is asked; no word of the table can change
   pub verdict : Answers answers.verdicts.verdict.Kinds.ps answers.verdicts.verdict.Kinds.r answers.verdicts.verdict.Reads.Asked answers.verdicts.verdict.Reads.Learnt
-      (λ κs a x e. Numbered (verdictNumber x) (verdictRows (a .0) (now (a .1 .0)) (a .1 .1 .0)) (Only VerdictRefused x))
+      (λ κs a x e. GivesNumber (verdictNumber x) (verdictRows (a .0) (now (a .1 .0)) (a .1 .1 .0)) (Only VerdictRefused x))
   pub verdict-whole : Answers answers.verdicts.verdict_whole.Kinds.ps answers.verdicts.verdict_whole.Kinds.r answers.verdicts.verdict_whole.Reads.Asked answers.verdicts.verdict_whole.Reads.Learnt
-      (λ κs a x e. Numbered (verdictNumber x) (wholeRows (a .0) (now (a .1 .0))) (Only VerdictRefused x))
+      (λ κs a x e. GivesNumber (verdictNumber x) (wholeRows (a .0) (now (a .1 .0))) (Only VerdictRefused x))
   pub availability : Answers answers.times.availability.Kinds.ps answers.times.availability.Kinds.r answers.times.availability.Reads.Asked answers.times.availability.Reads.Learnt
-      (λ κs a x e. Numbered (availabilityNumber x) (availabilityRows (a .0) (now (a .1 .0)) (a .1 .1 .0)) (Only AvailabilityRefused x))
+      (λ κs a x e. GivesNumber (availabilityNumber x) (availabilityRows (a .0) (now (a .1 .0)) (a .1 .1 .0)) (Only AvailabilityRefused x))
   pub available-at : Answers answers.times.available_at.Kinds.ps answers.times.available_at.Kinds.r answers.times.available_at.Reads.Asked answers.times.available_at.Reads.Learnt
-      (λ κs a x e. Numbered (availableNumber x) (availableRows (a .0) (now (a .1 .0)) (a .1 .1 .0) (a .1 .1 .1 .0)) (Only AvailableRefused x))
+      (λ κs a x e. GivesNumber (availableNumber x) (availableRows (a .0) (now (a .1 .0)) (a .1 .1 .0) (a .1 .1 .1 .0)) (Only AvailableRefused x))
   pub touching-words : Answers answers.spans.touching_words.Kinds.ps answers.spans.touching_words.Kinds.r answers.spans.touching_words.Reads.Asked answers.spans.touching_words.Reads.Learnt
-      (λ κs a x e. Numbered (touchingNumber x) (touchingRows (a .0) (now (a .1 .0)) (a .1 .1 .0) (a .1 .1 .1 .0)) (Only TouchingRefused x))
+      (λ κs a x e. GivesNumber (touchingNumber x) (touchingRows (a .0) (now (a .1 .0)) (a .1 .1 .0) (a .1 .1 .1 .0)) (Only TouchingRefused x))
   -- the part of the table itself gives no number: it is empty where the span lookup refuses
   pub touching : Answers answers.spans.touching.Kinds.ps answers.spans.touching.Kinds.r answers.spans.touching.Reads.Asked answers.spans.touching.Reads.Learnt
       (λ κs a x e. (lowest (touchingRows (a .0) (now (a .1 .0)) (a .1 .1 .0) (a .1 .1 .1 .0)) ≡ 0 → ⊥) → now x ≡ [])
@@ -155,7 +155,7 @@ pub record Demand1 : Type 0 where
       (λ κs a x e. Finishes (a .0) (now (a .1 .0)) x (now (e .1 .0)))
   -- writing: record, table, output
   pub write : Answers file.write.Kinds.ps file.write.Kinds.r file.write.Reads.Asked file.write.Reads.Learnt
-      (λ κs a x e. Numbered (writeNumber x) (writeRows (a .0) (now (a .1 .0)) (length (now (a .1 .1 .0)))) (now (e .1 .1 .0) ≡ now (a .1 .1 .0)))
+      (λ κs a x e. GivesNumber (writeNumber x) (writeRows (a .0) (now (a .1 .0)) (length (now (a .1 .1 .0)))) (now (e .1 .1 .0) ≡ now (a .1 .1 .0)))
   -- the program answers each input by a line
   pub desk-begins : AnyInput report.begin.Kinds.ps report.begin.Kinds.r report.begin.Reads.Asked
   pub desk-feed : AnyInput report.feed.Kinds.ps report.feed.Kinds.r report.feed.Reads.Asked
@@ -191,5 +191,5 @@ pub record Demand1 : Type 0 where
       (λ κs a x e. ReadsFromC (now (a .0)) x (now (a .1 .0)) (now (a .1 .1 .0)) (now (a .1 .1 .1 .0)) (now (e .1 .0)) (now (e .1 .1 .0)) (now (e .1 .1 .1 .0)))
   -- C, writing: record, table, bytes, out
   pub c-write : Answers flonterri.flonterri_write.Kinds.ps flonterri.flonterri_write.Kinds.r flonterri.flonterri_write.Reads.Asked flonterri.flonterri_write.Reads.Learnt
-      (λ κs a x e. Numbered x (lengthRows (now (a .0)) (now (a .1 .1 .1 .0)) 1 (writeRows (recordOf (now (a .0))) (now (a .1 .0)) (length (now (a .1 .1 .0)))))
+      (λ κs a x e. GivesNumber x (lengthRows (now (a .0)) (now (a .1 .1 .1 .0)) 1 (writeRows (recordOf (now (a .0))) (now (a .1 .0)) (length (now (a .1 .1 .0)))))
       ((now (e .1 .1 .0) ≡ now (a .1 .1 .0)) × (now (e .1 .1 .1 .0) ≡ now (a .1 .1 .1 .0))))

@@ -12,6 +12,7 @@ use mathlib.Core.List.{List, _∷_, _++_}
 use lib.IntN.{ℤ, pos, _+ℤ_, _-ℤ_, _*ℤ_}
 use lib.ListN.{length, take}
 use lib.Signed.{leZ, ltZ}
+use Rattle.units.specs.Exactly.{ExactlyWhen}
 use Rattle.units.specs.declared.Grain.{Grain}
 use Rattle.units.specs.declared.WideMillis.{WideMillis}
 use Rattle.units.specs.declared.WideNumber.{WideNumber}
@@ -22,7 +23,7 @@ use Rattle.window.specs.declared.Head.{Head}
 use Rattle.window.specs.declared.Reference.{Reference}
 use Rattle.window.specs.Place.{beforeEnd}
 use Rattle.window.specs.Window.{Stretch, windowAt, wholePeriod, tickNeeded}
-use Rattle.window.specs.Ticks.{reachesEnd}
+use Rattle.window.specs.Ticks.{LeastCount}
 use Rattle.runs.specs.Words.{capacity}
 use Rattle.runs.specs.Encoding.{canonical}
 use Rattle.agreement.specs.declared.Record.{Record}
@@ -30,7 +31,7 @@ use Rattle.agreement.specs.declared.refusal.Refusal.{Refusal}
 use Rattle.agreement.specs.declared.refusal.Refusal.the-variants as refusal
 use Rattle.agreement.specs.Agreement.{kept, agrees}
 use Rattle.keeping.specs.declared.Outcome.the-variants as outcome
-use Rattle.keeping.specs.Joined.{fitOutcome}
+use Rattle.keeping.specs.Append.{fitOutcome}
 use Rattle.answers.specs.declared.Verdict.the-variants as verdict
 use Rattle.answers.specs.declared.Percent.the-variants.{Of}
 use Rattle.answers.specs.declared.Availability.the-variants as availability
@@ -47,11 +48,6 @@ use Rattle.file.specs.declared.WriteAnswer.the-variants.{Written}
 use Rattle.file.specs.Least.{leastCount}
 use Rattle.file.specs.Judging.{firstNegative, appendedBy, takeS, readAnswer, readTable}
 use Rattle.file.specs.Writing.{fileFor, writeAnswer, outputBy, readBack}
-
--- the one exactly when the other
-pub record ExactlyWhen (P Q : Type 0) : Type 0 where
-  pub only : P → Q
-  pub if : Q → P
 
 -- ---- verdicts
 
@@ -77,25 +73,25 @@ abbrev pub NeedsNone : Head → Stretch → Type 0
 NeedsNone h w = (k : ℕ) → tickNeeded h w k ≡ false
 
 -- a verdict at a clock may be asked: record and table agree, and the clock is within its limit and not before the greatest
-pub record Asked (rec : Record) (ws : List ℕ) (c : WideMillis) : Type 0 where
+pub record MayAsk (rec : Record) (ws : List ℕ) (c : WideMillis) : Type 0 where
   pub agreed : agrees rec ws ≡ true
   pub limit : c .0 ≤ largestMillis
   pub later : rec .clock .0 ≤ c .0
 
 -- a verdict of the whole period may be asked: record and table agree, and the end is known
-pub record AskedWhole (rec : Record) (ws : List ℕ) : Type 0 where
+pub record MayAskWhole (rec : Record) (ws : List ℕ) : Type 0 where
   pub agreed : agrees rec ws ≡ true
   pub known : 1 ≤ rec .head .duration .0
 
 -- why it may not: 2, then 10, then 11, and 2, then 19
-pub data NotAsked (rec : Record) (ws : List ℕ) (c : WideMillis) : Refusal → Type 0 where
-  disagree : agrees rec ws ≡ false → NotAsked rec ws c refusal.Disagreement
-  over : agrees rec ws ≡ true → largestMillis < c .0 → NotAsked rec ws c refusal.ClockLimit
-  early : agrees rec ws ≡ true → c .0 ≤ largestMillis → c .0 < rec .clock .0 → NotAsked rec ws c refusal.EarlierClock
+pub data MayNotAsk (rec : Record) (ws : List ℕ) (c : WideMillis) : Refusal → Type 0 where
+  disagree : agrees rec ws ≡ false → MayNotAsk rec ws c refusal.Disagreement
+  over : agrees rec ws ≡ true → largestMillis < c .0 → MayNotAsk rec ws c refusal.ClockLimit
+  early : agrees rec ws ≡ true → c .0 ≤ largestMillis → c .0 < rec .clock .0 → MayNotAsk rec ws c refusal.EarlierClock
 
-pub data NotAskedWhole (rec : Record) (ws : List ℕ) : Refusal → Type 0 where
-  disagreeing : agrees rec ws ≡ false → NotAskedWhole rec ws refusal.Disagreement
-  unknown : agrees rec ws ≡ true → rec .head .duration .0 ≡ 0 → NotAskedWhole rec ws refusal.EndUnknown
+pub data MayNotAskWhole (rec : Record) (ws : List ℕ) : Refusal → Type 0 where
+  disagreeing : agrees rec ws ≡ false → MayNotAskWhole rec ws refusal.Disagreement
+  unknown : agrees rec ws ≡ true → rec .head .duration .0 ≡ 0 → MayNotAskWhole rec ws refusal.EndUnknown
 
 -- the window of a record at a clock, and its whole period
 abbrev pub atClock : Record → WideMillis → Stretch
@@ -110,8 +106,8 @@ inWhole rec = wholePeriod (rec .head)
 abbrev pub firstKept : Record → ℕ
 firstKept rec = rec .head .first .0 + rec .dropped
 
-abbrev pub numbered : ℕ → WideNumber
-numbered n = record { 0 = n }
+abbrev pub wideNumber : ℕ → WideNumber
+wideNumber n = record { 0 = n }
 
 abbrev pub grain : ℤ → Grain
 grain z = record { 0 = z }
@@ -162,34 +158,26 @@ pub record SameKept (rec : Record) (ws : List ℕ) (other : Record) (vs : List �
   pub number : firstKept rec ≡ firstKept other
   pub references : kept rec ws ≡ kept other vs
 
--- ---- negative r
-
--- n is the least count, one at least, of references of d ticks from tick s whose end reaches or passes the period end
-pub record Least (h : Head) (s d n : ℕ) : Type 0 where
-  pub some : 1 ≤ n
-  pub reaches : reachesEnd h (s + d * n) ≡ true
-  pub least : (m : ℕ) → 1 ≤ m → m < n → reachesEnd h (s + d * m) ≡ false
-
 -- ---- the demand
 
 pub record Demand2 : Type 0 where
   -- a verdict at a clock, and of the whole period: each case exactly when
   pub complete-at : (rec : Record) (ws : List ℕ) (c : WideMillis) (n : ℕ) →
-      ExactlyWhen (verdictAt rec ws c ≡ verdict.Complete n) (Asked rec ws c × Completes (rec .head) (atClock rec c) (kept rec ws) n)
+      ExactlyWhen (verdictAt rec ws c ≡ verdict.Complete n) (MayAsk rec ws c × Completes (rec .head) (atClock rec c) (kept rec ws) n)
   pub complete-whole : (rec : Record) (ws : List ℕ) (n : ℕ) →
-      ExactlyWhen (verdictWhole rec ws ≡ verdict.Complete n) (AskedWhole rec ws × Completes (rec .head) (inWhole rec) (kept rec ws) n)
+      ExactlyWhen (verdictWhole rec ws ≡ verdict.Complete n) (MayAskWhole rec ws × Completes (rec .head) (inWhole rec) (kept rec ws) n)
   pub lacking-at : (rec : Record) (ws : List ℕ) (c : WideMillis) (n m : ℕ) (k : WideTick) →
-      ExactlyWhen (verdictAt rec ws c ≡ verdict.Lacking n m k) (Asked rec ws c × Lacks (rec .head) (atClock rec c) (kept rec ws) n m (k .0))
+      ExactlyWhen (verdictAt rec ws c ≡ verdict.Lacking n m k) (MayAsk rec ws c × Lacks (rec .head) (atClock rec c) (kept rec ws) n m (k .0))
   pub lacking-whole : (rec : Record) (ws : List ℕ) (n m : ℕ) (k : WideTick) →
-      ExactlyWhen (verdictWhole rec ws ≡ verdict.Lacking n m k) (AskedWhole rec ws × Lacks (rec .head) (inWhole rec) (kept rec ws) n m (k .0))
+      ExactlyWhen (verdictWhole rec ws ≡ verdict.Lacking n m k) (MayAskWhole rec ws × Lacks (rec .head) (inWhole rec) (kept rec ws) n m (k .0))
   pub nothing-at : (rec : Record) (ws : List ℕ) (c : WideMillis) →
-      ExactlyWhen (verdictAt rec ws c ≡ verdict.Nothing) (Asked rec ws c × NeedsNone (rec .head) (atClock rec c))
+      ExactlyWhen (verdictAt rec ws c ≡ verdict.Nothing) (MayAsk rec ws c × NeedsNone (rec .head) (atClock rec c))
   pub nothing-whole : (rec : Record) (ws : List ℕ) →
-      ExactlyWhen (verdictWhole rec ws ≡ verdict.Nothing) (AskedWhole rec ws × NeedsNone (rec .head) (inWhole rec))
+      ExactlyWhen (verdictWhole rec ws ≡ verdict.Nothing) (MayAskWhole rec ws × NeedsNone (rec .head) (inWhole rec))
   pub refused-at : (rec : Record) (ws : List ℕ) (c : WideMillis) (why : Refusal) →
-      ExactlyWhen (verdictAt rec ws c ≡ verdict.Refused why) (NotAsked rec ws c why)
+      ExactlyWhen (verdictAt rec ws c ≡ verdict.Refused why) (MayNotAsk rec ws c why)
   pub refused-whole : (rec : Record) (ws : List ℕ) (why : Refusal) →
-      ExactlyWhen (verdictWhole rec ws ≡ verdict.Refused why) (NotAskedWhole rec ws why)
+      ExactlyWhen (verdictWhole rec ws ≡ verdict.Refused why) (MayNotAskWhole rec ws why)
   -- a test is passed by one number of numbers, whatever the bound
   pub one-count : (p : ℕ → Bool) (m n : ℕ) → Many p m → Many p n → m ≡ n
   -- the percent is 100 exactly when the verdict is complete
@@ -200,19 +188,19 @@ pub record Demand2 : Type 0 where
   -- the kept reference behind `xs` has the number of the first kept one plus their count
   pub available-ends : (rec : Record) (ws : List ℕ) → agrees rec ws ≡ true → 1 ≤ rec .head .depth .0 →
       (xs ys : List Reference) (r : Reference) → kept rec ws ≡ xs ++ r ∷ ys →
-      availabilityIn rec ws (numbered (firstKept rec + length xs)) ≡ availability.Ends (grain (startsAt (rec .head) r)) (grain (endsAt (rec .head) r))
+      availabilityIn rec ws (wideNumber (firstKept rec + length xs)) ≡ availability.Ends (grain (startsAt (rec .head) r)) (grain (endsAt (rec .head) r))
   pub available-ever : (rec : Record) (ws : List ℕ) → agrees rec ws ≡ true → rec .head .depth .0 ≡ 0 →
       (xs ys : List Reference) (r : Reference) → kept rec ws ≡ xs ++ r ∷ ys →
-      availabilityIn rec ws (numbered (firstKept rec + length xs)) ≡ availability.NeverEnds (grain (startsAt (rec .head) r))
+      availabilityIn rec ws (wideNumber (firstKept rec + length xs)) ≡ availability.NeverEnds (grain (startsAt (rec .head) r))
   pub available-at : (rec : Record) (ws : List ℕ) → agrees rec ws ≡ true → (c : WideMillis) → c .0 ≤ largestMillis →
       (xs ys : List Reference) (r : Reference) → kept rec ws ≡ xs ++ r ∷ ys →
-      ExactlyWhen (availableIn rec ws (numbered (firstKept rec + length xs)) c ≡ at.Yes) (Offered (rec .head) r c)
+      ExactlyWhen (availableIn rec ws (wideNumber (firstKept rec + length xs)) c ≡ at.Yes) (Offered (rec .head) r c)
   -- where record and table disagree every number is refused with 2, and else one that no kept reference has with 13
   pub available-disagreed : (rec : Record) (ws : List ℕ) (n : WideNumber) → agrees rec ws ≡ false →
       availabilityIn rec ws n ≡ availability.Refused refusal.Disagreement
   pub not-kept : (rec : Record) (ws : List ℕ) → agrees rec ws ≡ true →
       (n : ℕ) → ((i : ℕ) → i < length (kept rec ws) → n ≡ firstKept rec + i → ⊥) →
-      availabilityIn rec ws (numbered n) ≡ availability.Refused refusal.NotKept
+      availabilityIn rec ws (wideNumber n) ≡ availability.Refused refusal.NotKept
   -- a file is written exactly when record and table agree, a run is kept and the output has room for all of it
   pub written : (rec : Record) (ws : List ℕ) (room n : ℕ) →
       ExactlyWhen (writeAnswer rec ws room ≡ Written n) (Writes rec ws room n)
@@ -223,8 +211,7 @@ pub record Demand2 : Type 0 where
   pub same-file : (rec other : Record) (ws vs : List ℕ) → agrees rec ws ≡ true → agrees other vs ≡ true → SameKept rec ws other vs →
       (out : List ℕ) → (writeAnswer rec ws (length out) ≡ writeAnswer other vs (length out)) × (output rec ws out ≡ output other vs out)
   -- a negative r on an S line that joins before a known end: so many references are appended, judged as any append from 6 on
-  pub least-count : (h : Head) (s d n : ℕ) → 1 ≤ d → 1 ≤ h .duration .0 → beforeEnd h s ≡ true →
-      ExactlyWhen (n ≡ leastCount h s d) (Least h s d n)
+  pub least-count : (h : Head) (s d n : ℕ) → 1 ≤ d → ExactlyWhen (n ≡ leastCount h s d) (LeastCount h s d n)
   pub negative-r : (r : Reading) (ws : List ℕ) (s : SFields) (n : ℕ) → firstNegative ≤ s .r → 1 ≤ s .d → 1 ≤ r .rec .head .duration .0 →
-      beforeEnd (r .rec .head) (r .rec .next .0) ≡ true → Least (r .rec .head) (r .rec .next .0) (s .d) n →
+      beforeEnd (r .rec .head) (r .rec .next .0) ≡ true → LeastCount (r .rec .head) (r .rec .next .0) (s .d) n →
       takeS r ws Joins s ≡ appendedBy (fitOutcome (r .rec) ws (s .d) n) Filled r ws (s .d) n

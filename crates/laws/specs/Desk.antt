@@ -8,6 +8,7 @@ use mathlib.Core.Path.{_≡_}
 use mathlib.Core.Bool.{true}
 use mathlib.Core.List.{List, [], _∷_, _++_}
 use lib.ListN.{replicate}
+use Rattle.units.specs.Exactly.{ExactlyWhen}
 use Rattle.units.specs.Limits.{largestMillis}
 use Rattle.window.specs.Window.{Stretch, windowAt, wholePeriod}
 use Rattle.agreement.specs.declared.Record.{Record}
@@ -18,13 +19,13 @@ use Rattle.keeping.specs.declared.Outcome.the-variants as outcome
 use Rattle.timeline.specs.Opening.{zeroRecord}
 use Rattle.frames.specs.declared.Frame.the-variants.{Clock}
 use Rattle.frames.specs.Frames.{lineOf}
-use Rattle.frames.specs.Worked.{bytesOf as ascii}
+use Rattle.hex.specs.Ascii.{ascii}
 use Rattle.file.specs.Lines.{lineFeed}
 use Rattle.file.specs.Judging.{readAnswer, readTable}
-use Rattle.report.specs.Clock.{allOnes}
+use Rattle.frames.specs.Fields.{allOnes}
 use Rattle.report.specs.Text.{decimal}
 use Rattle.report.specs.Answer.{tableLength, answer}
-use Rattle.laws.specs.Demand2.{ExactlyWhen, Completes, Lacks, NeedsNone}
+use Rattle.laws.specs.Demand2.{Completes, Lacks, NeedsNone}
 
 -- ---- the input
 

@@ -11,16 +11,16 @@ use lib.ListN.{length, drop}
 use Rattle.units.specs.declared.Tick.{Tick}
 use Rattle.window.specs.declared.Head.{Head}
 use Rattle.window.specs.declared.Reference.{Reference}
-use Rattle.window.specs.References.{Joined}
+use Rattle.window.specs.References.{EndToStart}
 use Rattle.window.specs.Window.{needed}
 use Rattle.runs.specs.Encoding.{runsFor, canonical}
-use Rattle.runs.specs.Joining.{lastEnd}
+use Rattle.runs.specs.Ends.{lastEnd}
 use Rattle.agreement.specs.declared.refusal.Refusal.{Refusal}
 use Rattle.agreement.specs.declared.refusal.Refusal.the-variants.{Disagreement}
 use Rattle.agreement.specs.Agreement.{kept, agrees}
 use Rattle.keeping.specs.declared.Outcome.the-variants.{Accepted, Refused}
 use Rattle.timeline.specs.Opening.{zeroRecord, openOutcome}
-use Rattle.laws.specs.Calls.{Call, Plain, State, opening, run, outcomeOf, allAccepted, acceptedAppends, laidFrom, greatest}
+use Rattle.laws.specs.Calls.{Call, Plain, State, opening, afterCalls, outcomeOf, allAccepted, acceptedAppends, laidFrom, greatest}
 
 -- a reference is needed at a clock or at some later whole millisecond
 abbrev pub StillNeeded : Head → ℕ → Reference → Type 0
@@ -58,7 +58,7 @@ pub record Holds (h : Head) (t : Tick) (words : ℕ) (s : State) (accepted : Lis
   -- record and table agree, and the table is as long as it came
   pub settled : Settled s words
   -- the accepted references join end to start, from the first tick on
-  pub joined : Joined (t .0) accepted
+  pub joined : EndToStart (t .0) accepted
   -- those that are still needed are kept, in order, and no other
   pub exactly : Picked (StillNeeded h c) accepted (keptBy s)
   -- the first kept one is as many places behind the first accepted one as its number is above the first number
@@ -75,19 +75,19 @@ pub record Mixings (h : Head) (t : Tick) (came other : List ℕ) (cs ds : List C
 pub record Demand3 : Type 0 where
   -- what any list of calls holds from an accepted opening, whatever words the table came with
   pub holds : (h : Head) (t : Tick) (came : List ℕ) → openOutcome h t ≡ Accepted → (cs : List Call) → Plain cs →
-      Holds h t (length came) (run (opening h t came) cs) (allAccepted (opening h t came) cs) (greatest (opening h t came) cs)
+      Holds h t (length came) (afterCalls (opening h t came) cs) (allAccepted (opening h t came) cs) (greatest (opening h t came) cs)
   -- the accepted references are those of the accepted appends, laid end to start from the first tick on
   pub laid : (h : Head) (t : Tick) (came : List ℕ) → openOutcome h t ≡ Accepted → (cs : List Call) →
       allAccepted (opening h t came) cs ≡ laidFrom (t .0) (acceptedAppends (opening h t came) cs)
   -- the same accepted appends in the same order, and the same greatest accepted clock: the same record and table
   pub same : (h : Head) (t : Tick) (came other : List ℕ) (cs ds : List Call) → Mixings h t came other cs ds →
       acceptedAppends (opening h t came) cs ≡ acceptedAppends (opening h t other) ds →
-      run (opening h t came) cs ≡ run (opening h t other) ds
+      afterCalls (opening h t came) cs ≡ afterCalls (opening h t other) ds
   -- how the accepted references were split into appends makes no difference
   pub split : (h : Head) (t : Tick) (came other : List ℕ) (cs ds : List Call) → Mixings h t came other cs ds →
       allAccepted (opening h t came) cs ≡ allAccepted (opening h t other) ds →
-      run (opening h t came) cs ≡ run (opening h t other) ds
+      afterCalls (opening h t came) cs ≡ afterCalls (opening h t other) ds
   -- a refused opening leaves a zero record and the words as they came; every call on these is refused with 2, and so they stay
   pub refused : (h : Head) (t : Tick) (came : List ℕ) (why : Refusal) → openOutcome h t ≡ Refused why → (cs : List Call) →
-      run (opening h t came) cs ≡ record { rec = zeroRecord; words = came }
+      afterCalls (opening h t came) cs ≡ record { rec = zeroRecord; words = came }
   pub never : (came : List ℕ) (c : Call) → outcomeOf (record { rec = zeroRecord; words = came }) c ≡ Refused Disagreement

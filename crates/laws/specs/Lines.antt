@@ -18,19 +18,16 @@ use Rattle.frames.specs.declared.Frame.the-variants.{Head as HeadFrame, S, End,
 use Rattle.frames.specs.declared.SFields.{SFields}
 use Rattle.frames.specs.Frames.{kindOf, frameOf}
 use Rattle.file.specs.Lines.{linesOf, restOf}
-use Rattle.file.specs.Least.{leastFrom, enough, reaching}
+use Rattle.file.specs.Judging.{absent}
+use Rattle.file.specs.Least.{leastCount}
 use Rattle.laws.specs.Calls.{Call, byTick, State, after, opening}
 use Rattle.laws.specs.Refusals.{lowest, overLimit, startsPast, noRunLeft, appendRows}
 
 -- ---- what an S line says
 
--- t is absent where all bits of its eight bytes are ones
-abbrev pub noTick : SFields → Bool
-noTick s = eqb (s .t .0) (2 ^ 64 - 1)
-
 -- where it starts: at its t, or at the previous end where t is absent
 abbrev pub startOf : ℕ → SFields → ℕ
-startOf previous s = cond (noTick s) previous (s .t .0)
+startOf previous s = cond (absent (s .t)) previous (s .t .0)
 
 -- the timeline opens where the first S starts; before that S no reference ends, and 0 stands for the previous end
 abbrev pub openingTick : SFields → Tick
@@ -40,13 +37,9 @@ openingTick s = record { 0 = startOf 0 s }
 abbrev pub negative : SFields → Bool
 negative s = leb (2 ^ 31) (s .r)
 
--- the least count, one at least, of references of d ticks from tick s on whose end reaches or passes the period end
-abbrev pub countToEnd : Head → ℕ → ℕ → ℕ
-countToEnd h s d = leastFrom (reaching h s d) (enough h) 1
-
--- how many references it gives: r of 0 or more means r + 1
+-- how many references it gives: r of 0 or more means r + 1, a negative one the least count, one at least, whose end reaches or passes the period end
 abbrev pub countOf : State → SFields → ℕ
-countOf x s = cond (negative s) (countToEnd (x .rec .head) (x .rec .next .0) (s .d)) (s .r + 1)
+countOf x s = cond (negative s) (leastCount (x .rec .head) (x .rec .next .0) (s .d)) (s .r + 1)
 
 -- the append that it stands for
 abbrev pub callOf : State → SFields → Call

@@ -6,6 +6,8 @@ use Prim.Native.Nat.{ℕ, _+_, _^_, _≤_, _<_}
 use mathlib.Core.Path.{_≡_}
 use mathlib.Core.List.{List, [], _∷_, _++_, map}
 use lib.ListN.{length}
+use Rattle.units.specs.Exactly.{ExactlyWhen}
+use Rattle.window.specs.Ticks.{LeastCount}
 use Rattle.window.specs.declared.Head.{Head}
 use Rattle.window.specs.Limits.{fieldsOf}
 use Rattle.keeping.specs.declared.Outcome.the-variants.{Accepted}
@@ -14,24 +16,18 @@ use Rattle.timeline.specs.Opening.{openAnswer}
 use Rattle.frames.specs.declared.Frame.{Frame}
 use Rattle.frames.specs.declared.Frame.the-variants.{Head as HeadFrame, S, End}
 use Rattle.frames.specs.declared.SFields.{SFields}
-use Rattle.frames.specs.Frames.{Fits}
+use Rattle.frames.specs.Language.{AllFit}
 use Rattle.file.specs.Judging.{readAnswer, readTable}
 use Rattle.file.specs.Writing.{bytesOf}
-use Rattle.laws.specs.Calls.{Call, byTick, Plain, State, opening, after, run, outcomeOf, allAccepted}
-use Rattle.laws.specs.Demand2.{ExactlyWhen, Least}
+use Rattle.laws.specs.Calls.{Call, byTick, Plain, State, opening, after, afterCalls, outcomeOf, allAccepted}
 use Rattle.laws.specs.History.{Holds}
-use Rattle.laws.specs.Lines.{startOf, openingTick, countToEnd, judgedFile}
+use Rattle.laws.specs.Lines.{startOf, openingTick, judgedFile}
 
 -- ---- the lines
 
 -- one head, the S lines, one end with their number
 abbrev pub fileFrames : Head → List SFields → List Frame
 fileFrames h ss = HeadFrame (fieldsOf h) ∷ map S ss ++ End (length ss) ∷ []
-
--- every field of every line can be written over its width
-abbrev pub AllFit : List Frame → Type 0
-AllFit [] = Unit {0}
-AllFit (f ∷ fs) = Fits f × AllFit fs
 
 -- a negative r on the last S only
 abbrev pub NegativeLast : List SFields → Type 0
@@ -48,7 +44,7 @@ pub record Gives (x : State) (s : SFields) (n : ℕ) : Type 0 where
   -- a negative r asks for a known end
   pub known : 2 ^ 31 ≤ s .r → 1 ≤ x .rec .head .duration .0
   -- and means the least count, one at least, whose end reaches or passes it
-  pub least : 2 ^ 31 ≤ s .r → Least (x .rec .head) (x .rec .next .0) (s .d) n
+  pub least : 2 ^ 31 ≤ s .r → LeastCount (x .rec .head) (x .rec .next .0) (s .d) n
 
 -- the append that it stands for: its duration, and its start or the previous end
 abbrev pub StandsFor : State → SFields → Call → Type 0
@@ -96,10 +92,10 @@ pub record ReadingRight : Type 0 where
   pub accepted : (bytes came : List ℕ) → ExactlyWhen (readAnswer bytes came .outcome ≡ Accepted) (IsFile bytes came)
   -- reading is opening plus appends: the record is theirs, and the line is 0
   pub answer : (bytes came : List ℕ) (h : Head) (s : SFields) (ss : List SFields) (cs : List Call) → ReadsAs bytes came h s ss cs →
-      readAnswer bytes came ≡ record { outcome = Accepted; rec = run (openingOf h s came) cs .rec; line = 0 }
+      readAnswer bytes came ≡ record { outcome = Accepted; rec = afterCalls (openingOf h s came) cs .rec; line = 0 }
   -- and so is the table
   pub table : (bytes came : List ℕ) (h : Head) (s : SFields) (ss : List SFields) (cs : List Call) → ReadsAs bytes came h s ss cs →
-      readTable bytes came ≡ run (openingOf h s came) cs .words
+      readTable bytes came ≡ afterCalls (openingOf h s came) cs .words
   -- those appends are calls as any caller's, with durations of 32 bits: what is proved of all lists of calls holds of a file
   pub plain : (bytes came : List ℕ) (h : Head) (s : SFields) (ss : List SFields) (cs : List Call) → ReadsAs bytes came h s ss cs → Plain cs
   -- and so demand 3 reaches a timeline that was read: its record and its table hold the accepted references of those appends, at clock 0
@@ -115,5 +111,3 @@ pub record ReadingRight : Type 0 where
   pub words : (bytes came : List ℕ) → readTable bytes came ≡ judgedFile bytes came .words
   -- no file is refused with 2
   pub never-two : (bytes came : List ℕ) → outcomeNumber (readAnswer bytes came .outcome) ≡ 2 → ⊥
-  -- the count of a negative r in the rows is the least one that reaches the period end
-  pub to-end : (h : Head) (s d n : ℕ) → 1 ≤ d → ExactlyWhen (n ≡ countToEnd h s d) (Least h s d n)

@@ -23,7 +23,7 @@ use Rattle.runs.specs.Steps.{needsRun}
 use Rattle.agreement.specs.declared.Record.{Record}
 use Rattle.agreement.specs.Agreement.{agrees}
 use Rattle.keeping.specs.Keeping.{unspent, outcomeNumber}
-use Rattle.keeping.specs.Joined.{given}
+use Rattle.keeping.specs.Append.{given}
 use Rattle.timeline.specs.Opening.{openAnswer}
 use Rattle.timeline.specs.Appending.{appendAnswer}
 use Rattle.timeline.specs.Trimming.{trimAnswer}

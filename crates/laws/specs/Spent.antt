@@ -3,11 +3,12 @@
 -- there or not: of what is kept and what an append gives, exactly those references stay that are still needed at the greatest
 -- clock, and the others are counted as dropped; a trim at an earlier clock changes nothing.
 -- Paper: Units; Record and table; Window, needed, spent; Append and trim.
-use Prim.Native.Nat.{ℕ, zero, suc, _+_, _-_, _*_, _^_, _≤_, _<_, max}
+use Prim.Native.Nat.{ℕ, suc, _+_, _-_, _*_, _^_, _≤_, _<_, max}
 use mathlib.Core.Path.{_≡_}
 use mathlib.Core.Bool.{true, false}
 use mathlib.Core.List.{List, _++_}
-use lib.ListN.{length, getD, drop}
+use lib.ListN.{length, getD}
+use Rattle.units.specs.Exactly.{ExactlyWhen}
 use Rattle.units.specs.declared.WideMillis.{WideMillis}
 use Rattle.units.specs.declared.standing.Standing.{Standing}
 use Rattle.units.specs.Limits.{largestTick, largestMillis, largestSpan, largestNumber}
@@ -18,15 +19,14 @@ use Rattle.window.specs.Place.{beforeEnd}
 use Rattle.window.specs.Window.{endOf, Spent, passed}
 use Rattle.window.specs.References.{Each}
 use Rattle.runs.specs.declared.Run.{Run}
-use Rattle.runs.specs.Words.{runAt, lastRun, capacity, runEnd}
+use Rattle.runs.specs.Words.{runAt, lastRun, capacity, runEnd, runsOf, totalCount}
 use Rattle.agreement.specs.declared.Record.{Record}
 use Rattle.agreement.specs.Agreement.{kept, agrees}
 use Rattle.keeping.specs.declared.Outcome.the-variants.{Accepted}
-use Rattle.keeping.specs.Joined.{given}
+use Rattle.keeping.specs.Append.{given}
 use Rattle.timeline.specs.Appending.{appendOutcome}
 use Rattle.timeline.specs.Trimming.{trimOutcome, trimAnswer, trimTable}
 use Rattle.laws.specs.Calls.{State, trimAt, appendTo, after}
-use Rattle.laws.specs.Demand2.{ExactlyWhen}
 use Rattle.laws.specs.History.{StillNeeded, Picked, keptBy, Settled}
 
 -- ---- agreement
@@ -34,11 +34,6 @@ use Rattle.laws.specs.History.{StillNeeded, Picked, keptBy, Settled}
 -- used run i, counted from 0
 abbrev pub usedRun : List ℕ → ℕ → Run
 usedRun ws i = runAt ws (i * 3)
-
--- the counts of the first n runs, added up
-unfoldable pub totalCount : ℕ → List ℕ → ℕ
-totalCount zero ws = 0
-totalCount (suc n) ws = runAt ws 0 .count + totalCount n (drop 3 ws)
 
 -- the paper's list
 pub record Agreeing (rec : Record) (ws : List ℕ) : Type 0 where
@@ -65,7 +60,7 @@ pub record Agreeing (rec : Record) (ws : List ℕ) : Type 0 where
   -- dropped is at most accepted
   pub dropped : rec .dropped ≤ rec .accepted
   -- the total of counts is accepted less dropped
-  pub total : totalCount (rec .used) ws ≡ rec .accepted - rec .dropped
+  pub total : totalCount (runsOf (rec .used) ws) ≡ rec .accepted - rec .dropped
   -- the last end, if any, is the next tick
   pub last : 1 ≤ rec .used → runEnd (lastRun (rec .used) ws) ≡ rec .next .0
   -- no reference is spent at the greatest clock

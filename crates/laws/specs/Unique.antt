@@ -105,7 +105,7 @@ pub record Entries : Type 0 where
   pub agrees : Entry agreement.Record.agrees.Kinds.ps agreement.Record.agrees.Kinds.r agreement.Record.agrees.Reads.Asked agreement.Record.agrees.Reads.Learnt
   pub record-held : Entry agreement.Record.held.Kinds.ps agreement.Record.held.Kinds.r agreement.Record.held.Reads.Asked agreement.Record.held.Reads.Learnt
   pub counts-held : Entry agreement.counts_held.Kinds.ps agreement.counts_held.Kinds.r agreement.counts_held.Reads.Asked agreement.counts_held.Reads.Learnt
-  pub is-reached : Entry agreement.is_reached.Kinds.ps agreement.is_reached.Kinds.r agreement.is_reached.Reads.Asked agreement.is_reached.Reads.Learnt
+  pub is-passed : Entry agreement.is_passed.Kinds.ps agreement.is_passed.Kinds.r agreement.is_passed.Reads.Asked agreement.is_passed.Reads.Learnt
   pub refusal-number : Entry agreement.refusal.Refusal.number.Kinds.ps agreement.refusal.Refusal.number.Kinds.r agreement.refusal.Refusal.number.Reads.Asked agreement.refusal.Refusal.number.Reads.Learnt
   -- window
   pub head-held : Entry window.Head.held.Kinds.ps window.Head.held.Kinds.r window.Head.held.Reads.Asked window.Head.held.Reads.Learnt
@@ -136,7 +136,7 @@ pub record Entries : Type 0 where
 pub record Inner : Type 0 where
   pub append-joined : OneResult keeping.append_joined.Kinds.ps keeping.append_joined.Kinds.r keeping.append_joined.Reads.Learnt
   pub append-joined-words : OneLent keeping.append_joined.Kinds.ps keeping.append_joined.Kinds.r keeping.append_joined.Reads.Learnt (λ κs e. now (e .1 .0))
-  pub gone-in : OneResult keeping.gone_in.Kinds.ps keeping.gone_in.Kinds.r keeping.gone_in.Reads.Learnt
+  pub count-passed : OneResult keeping.count_passed.Kinds.ps keeping.count_passed.Kinds.r keeping.count_passed.Reads.Learnt
   pub write-line : OneResult frames.write_line.Kinds.ps frames.write_line.Kinds.r frames.write_line.Reads.Learnt
   pub write-line-words : OneLent frames.write_line.Kinds.ps frames.write_line.Kinds.r frames.write_line.Reads.Learnt (λ κs e. now (e .0))
   pub number : OneResult hex.number.Kinds.ps hex.number.Kinds.r hex.number.Reads.Learnt
@@ -146,8 +146,8 @@ pub record Inner : Type 0 where
   pub needed-whole : OneResult window.Head.needed_whole.Kinds.ps window.Head.needed_whole.Kinds.r window.Head.needed_whole.Reads.Learnt
   pub least-count : OneResult window.Head.least_count.Kinds.ps window.Head.least_count.Kinds.r window.Head.least_count.Reads.Learnt
   pub run-at : OneResult runs.table.run_at.Kinds.ps runs.table.run_at.Kinds.r runs.table.run_at.Reads.Learnt
-  pub ended-in : OneResult runs.table.ended_in.Kinds.ps runs.table.ended_in.Kinds.r runs.table.ended_in.Reads.Learnt
-  pub ended-by : OneResult runs.table.ended_by.Kinds.ps runs.table.ended_by.Kinds.r runs.table.ended_by.Reads.Learnt
+  pub passed-in : OneResult runs.table.passed_in.Kinds.ps runs.table.passed_in.Kinds.r runs.table.passed_in.Reads.Learnt
+  pub passed-upto : OneResult runs.table.passed_upto.Kinds.ps runs.table.passed_upto.Kinds.r runs.table.passed_upto.Reads.Learnt
   pub needs-run : OneResult runs.table.needs_run.Kinds.ps runs.table.needs_run.Kinds.r runs.table.needs_run.Reads.Learnt
   pub drop-front : OneResult runs.table.drop_front.Kinds.ps runs.table.drop_front.Kinds.r runs.table.drop_front.Reads.Learnt
   pub drop-front-words : OneLent runs.table.drop_front.Kinds.ps runs.table.drop_front.Kinds.r runs.table.drop_front.Reads.Learnt (λ κs e. now (e .0))

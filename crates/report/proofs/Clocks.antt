@@ -25,7 +25,8 @@ use Rattle.frames.proofs.Frame.{the-type}
 use Rattle.frames.proofs.Lines.{length-line, line-read-written, read-fits}
 use Rattle.report.specs.declared.Asked.{Asked}
 use Rattle.report.specs.declared.Asked.the-variants.{Unheard, At, Whole, Refused}
-use Rattle.report.specs.Clock.{allOnes, askedBy, askedOn}
+use Rattle.frames.specs.Fields.{allOnes}
+use Rattle.report.specs.Clock.{askedBy, askedOn}
 
 -- ---- by the frame
 

@@ -19,14 +19,14 @@ use Rattle.window.specs.Ticks.{named, NeededTicks}
 use Rattle.window.proofs.Division.{window-ticks, window-none}
 use Rattle.runs.specs.Words.{runsOf, wordsOf, repeated, referencesOf}
 use Rattle.runs.specs.Shape.{runsShaped, zeros}
-use Rattle.runs.specs.Joining.{lastEnd}
+use Rattle.runs.specs.Ends.{lastEnd}
 use Rattle.runs.specs.Encoding.{push, encode, tableOf}
 use Rattle.agreement.specs.declared.Record.{Record}
 use Rattle.agreement.specs.declared.refusal.Refusal.the-variants.{Disagreement, ClockLimit, EarlierClock, EndUnknown}
 use Rattle.agreement.specs.Agreement.{agrees, every, kept}
 use Rattle.keeping.specs.declared.Outcome.the-variants.{Accepted}
 use Rattle.keeping.specs.Keeping.{unspent, wordsBy}
-use Rattle.keeping.specs.Joined.{fitOutcome, roomOutcome}
+use Rattle.keeping.specs.Append.{fitOutcome, roomOutcome}
 use Rattle.timeline.specs.Opening.{openOutcome}
 use Rattle.timeline.specs.Appending.{appendOutcome}
 use Rattle.answers.specs.declared.Verdict.{Verdict}
@@ -41,14 +41,15 @@ use Rattle.file.specs.Judging.{settledReading, onNothing, onHeaded, onOpen, tak
 use Rattle.hex.specs.Digits.{between, isDigit, valueOf, areDigits, numberOf}
 use Rattle.frames.specs.Fields.{fieldValues}
 use Rattle.frames.specs.Frames.{frameAs, frameOf}
-use Rattle.frames.specs.Worked.{headB as headFrom, bytesOf as ascii}
+use Rattle.hex.specs.Ascii.{ascii}
+use Rattle.frames.specs.Worked.{fieldsB}
 use Rattle.report.specs.declared.Asked.{Asked}
 use Rattle.report.specs.declared.Asked.the-variants.{At, Whole}
 use Rattle.report.specs.Input.{hasFeed, firstLine, behindFirst}
 use Rattle.report.specs.Clock.{askedOn}
 use Rattle.report.specs.Answer.{askedIn, replyOn, replyIn, tableLength, answer}
 use Rattle.report.specs.Text.{decimalBy, decimal, shareText, refusedText, verdictText, textOf}
-use Rattle.report.specs.Worked.{headB, sB, fileB, Lines}
+use Rattle.report.specs.Worked.{headLine, sLine, fileB, Lines}
 
 -- ---- what is refused
 
@@ -64,7 +65,7 @@ over : answer (ascii "04000000174876e801" ++ 10 ∷ fileB) ≡ ascii "refused 10
 unfolding replyIn replyOn hasFeed firstLine behindFirst askedIn askedOn frameOf frameAs fieldValues areDigits numberOf valueOf isDigit between ascii textOf refusedText decimal decimalBy
 over = refl
 
-unended : answer (ascii "0400000000000036b0" ++ 10 ∷ headB ++ 10 ∷ sB) ≡ ascii "refused 16 line 2" ++ 10 ∷ []
+unended : answer (ascii "0400000000000036b0" ++ 10 ∷ headLine ++ 10 ∷ sLine) ≡ ascii "refused 16 line 2" ++ 10 ∷ []
 unfolding replyIn replyOn hasFeed firstLine behindFirst askedIn askedOn frameOf frameAs fieldValues areDigits numberOf valueOf isDigit between ascii textOf refusedText decimal decimalBy readAnswer readOutcome readLines takeLines linesFrom restFrom takeLine onNothing takeHead
 unended = refl
 
@@ -73,7 +74,7 @@ unended = refl
 abbrev recordB : Record
 recordB =
     record {
-      head = headOf (headFrom 1);
+      head = headOf (fieldsB 1);
       accepted = 5;
       dropped = 0;
       next = record { 0 = 20_000 };

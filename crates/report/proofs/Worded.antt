@@ -9,7 +9,7 @@ use Rattle.answers.specs.declared.Verdict.{Verdict}
 use Rattle.answers.specs.declared.Verdict.the-variants as verdict
 use Rattle.answers.specs.declared.Percent.{Percent}
 use Rattle.answers.specs.Shares.{percentOf, percentNumber}
-use Rattle.frames.specs.Worked.{bytesOf}
+use Rattle.hex.specs.Ascii.{ascii}
 use Rattle.report.specs.declared.Reply.{Reply}
 use Rattle.report.specs.declared.Reply.the-variants.{Judged, Refused}
 use Rattle.report.specs.Text.{decimal, shareText, refusedText, verdictText, textOf}
@@ -22,7 +22,7 @@ put-as out at s t after n e p = subst (λ (x : List ℕ). Put out at x after n) 
 
 module _ (needed covered p : ℕ) (pc : Percent) (e : pc ≡ percentOf needed covered) (f : p ≡ percentNumber pc) where
   share-is : (text : List ℕ) → (((text ++ decimal covered) ++ (47 ∷ decimal needed)) ++ (32 ∷ decimal p)) ++ (37 ∷ 10 ∷ []) ≡ text ++ shareText needed covered
-  unfolding shareText bytesOf
+  unfolding shareText ascii
   share-is text =
       ap (λ (n : ℕ). (((text ++ decimal covered) ++ (47 ∷ decimal needed)) ++ (32 ∷ decimal n)) ++ (37 ∷ 10 ∷ [])) (f ∙ ap percentNumber e) ∙
       simp append-assoc
@@ -34,7 +34,7 @@ module _ (needed covered p : ℕ) (pc : Percent) (e : pc ≡ percentOf needed co
 
 module _ (why : Refusal) (number line : ℕ) (e : number ≡ refusalNumber why) where
   refused-is : ((114 ∷ 101 ∷ 102 ∷ 117 ∷ 115 ∷ 101 ∷ 100 ∷ 32 ∷ decimal number) ++ 32 ∷ 108 ∷ 105 ∷ 110 ∷ 101 ∷ 32 ∷ decimal line) ++ 10 ∷ [] ≡ refusedText why line
-  unfolding refusedText bytesOf
+  unfolding refusedText ascii
   refused-is =
       ap (λ (n : ℕ). ((114 ∷ 101 ∷ 102 ∷ 117 ∷ 115 ∷ 101 ∷ 100 ∷ 32 ∷ decimal n) ++ 32 ∷ 108 ∷ 105 ∷ 110 ∷ 101 ∷ 32 ∷ decimal line) ++ 10 ∷ []) e ∙
       simp append-assoc
@@ -47,7 +47,7 @@ module _ (why : Refusal) (number line : ℕ) (e : number ≡ refusalNumber why) 
 pub lacking-is : (needed covered : ℕ) (lowest : WideTick) (out out₁ after : List ℕ) (a n : ℕ) →
     Put out 0 (108 ∷ 97 ∷ 99 ∷ 107 ∷ 105 ∷ 110 ∷ 103 ∷ 32 ∷ decimal (lowest .0)) out₁ a → Put out₁ a (32 ∷ shareText needed covered) after n →
     Put out 0 (verdictText (verdict.Lacking needed covered lowest)) after n
-unfolding verdictText bytesOf
+unfolding verdictText ascii
 lacking-is needed covered lowest out out₁ after a n p q =
     put-as out 0 _ _ after n
     (sym (append-assoc (108 ∷ 97 ∷ 99 ∷ 107 ∷ 105 ∷ 110 ∷ 103 ∷ 32 ∷ decimal (lowest .0)) (32 ∷ []) (shareText needed covered)))
@@ -58,12 +58,12 @@ lacking-is needed covered lowest out out₁ after a n p q =
 module _ (v : Verdict) (out : List ℕ) where
   pub nothing-put : v ≡ verdict.Nothing → (after : List ℕ) (n : ℕ) →
       Put out 0 (110 ∷ 111 ∷ 116 ∷ 104 ∷ 105 ∷ 110 ∷ 103 ∷ 32 ∷ 110 ∷ 101 ∷ 101 ∷ 100 ∷ 101 ∷ 100 ∷ 10 ∷ []) after n → Put out 0 (verdictText v) after n
-  unfolding verdictText bytesOf
+  unfolding verdictText ascii
   nothing-put e after n p = put-as out 0 _ _ after n (ap verdictText (sym e)) p
 
   pub complete-put : (needed : ℕ) → v ≡ verdict.Complete needed → (after : List ℕ) (n : ℕ) →
       Put out 0 (99 ∷ 111 ∷ 109 ∷ 112 ∷ 108 ∷ 101 ∷ 116 ∷ 101 ∷ 32 ∷ shareText needed needed) after n → Put out 0 (verdictText v) after n
-  unfolding verdictText bytesOf
+  unfolding verdictText ascii
   complete-put needed e after n p = put-as out 0 _ _ after n (ap verdictText (sym e)) p
 
   pub lacking-put : (needed covered : ℕ) (lowest : WideTick) → v ≡ verdict.Lacking needed covered lowest → (after : List ℕ) (n : ℕ) →

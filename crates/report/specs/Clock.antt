@@ -1,6 +1,6 @@
 -- The clock line is one frame of kind 04, and what it holds is asked: a clock of all ones is the whole period, any other is a clock, refused with
 -- 10 where it is over its limit. A line that is no such frame is refused with 16. Paper: The file (the program); Refusal numbers, 10 and 16.
-use Prim.Native.Nat.{ℕ, _-_, _^_}
+use Prim.Native.Nat.{ℕ, _-_}
 use mathlib.Core.Bool.{cond}
 use mathlib.Core.List.{List}
 use lib.Dec.{eqb}
@@ -8,12 +8,10 @@ use Rattle.units.specs.Limits.{clockHeld}
 use Rattle.agreement.specs.declared.refusal.Refusal.the-variants.{ClockLimit, BadLine}
 use Rattle.frames.specs.declared.Frame.{Frame}
 use Rattle.frames.specs.declared.Frame.the-variants as frame
+use Rattle.frames.specs.Fields.{allOnes}
 use Rattle.frames.specs.Frames.{frameOf}
 use Rattle.report.specs.declared.Asked.{Asked}
 use Rattle.report.specs.declared.Asked.the-variants.{At, Whole, Refused}
-
-abbrev pub allOnes : ℕ
-allOnes = 2 ^ 64 - 1
 
 -- on the clock line a frame of any other kind is of no known kind
 abbrev pub askedBy : Frame → Asked

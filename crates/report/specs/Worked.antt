@@ -3,18 +3,18 @@
 use mathlib.Core.Path.{_≡_}
 use mathlib.Core.List.{List, [], _∷_, _++_}
 use Prim.Native.Nat.{ℕ}
-use Rattle.frames.specs.Worked.{bytesOf as ascii}
+use Rattle.hex.specs.Ascii.{ascii}
 use Rattle.report.specs.Answer.{answer}
 
-abbrev pub headB : List ℕ
-headB = ascii "01000003e8000000000000000000000000000000000000000000000000000000000000271000000001"
+abbrev pub headLine : List ℕ
+headLine = ascii "01000003e8000000000000000000000000000000000000000000000000000000000000271000000001"
 
 -- five references of 4000 from tick 0
-abbrev pub sB : List ℕ
-sB = ascii "02000000000000000000000fa000000004"
+abbrev pub sLine : List ℕ
+sLine = ascii "02000000000000000000000fa000000004"
 
 abbrev pub fileB : List ℕ
-fileB = headB ++ 10 ∷ sB ++ 10 ∷ ascii "0300000001" ++ 10 ∷ []
+fileB = headLine ++ 10 ∷ sLine ++ 10 ∷ ascii "0300000001" ++ 10 ∷ []
 
 pub record Lines : Type 0 where
   pub complete : answer (ascii "0400000000000036b0" ++ 10 ∷ fileB) ≡ ascii "complete 10000/10000 100%" ++ 10 ∷ []
@@ -22,6 +22,6 @@ pub record Lines : Type 0 where
   pub nothing : answer (ascii "040000000000000000" ++ 10 ∷ fileB) ≡ ascii "nothing needed" ++ 10 ∷ []
   pub whole : answer (ascii "04ffffffffffffffff" ++ 10 ∷ fileB) ≡ ascii "refused 19 line 0" ++ 10 ∷ []
   pub over : answer (ascii "04000000174876e801" ++ 10 ∷ fileB) ≡ ascii "refused 10 line 0" ++ 10 ∷ []
-  pub unended : answer (ascii "0400000000000036b0" ++ 10 ∷ headB ++ 10 ∷ sB) ≡ ascii "refused 16 line 2" ++ 10 ∷ []
+  pub unended : answer (ascii "0400000000000036b0" ++ 10 ∷ headLine ++ 10 ∷ sLine) ≡ ascii "refused 16 line 2" ++ 10 ∷ []
   pub alone : answer (ascii "0400000000000036b0" ++ 10 ∷ []) ≡ ascii "refused 16 line 1" ++ 10 ∷ []
   pub empty : answer [] ≡ ascii "refused 16 line 0" ++ 10 ∷ []

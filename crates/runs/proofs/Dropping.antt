@@ -18,7 +18,7 @@ use Rattle.runs.specs.Steps.{withRun, Less, CutAt}
 use Rattle.runs.proofs.Opening.{runs-length, words-length, repeated-length, referencesIn}
 use Rattle.runs.proofs.Encoded.{leads, led, fresh, starts, follow, encoded, shaped-drop}
 use Rattle.runs.proofs.Tables.{used-words, runs-shaped, table-is, table-length}
-use Rattle.runs.proofs.Joins.{references-append, repeated-drop}
+use Rattle.runs.proofs.EndToStart.{references-append, repeated-drop}
 
 -- ---- whole runs
 
@@ -51,33 +51,33 @@ shifted words rest moved part n b e sum long m p =
     ap₂ (λ t u. t ++ u) (ap (take n) is ∙ take-at (drop b words) (drop n (words ++ rest)) n front-long)
     (ap₂ (λ t u. t ++ u) cleared (post-is n e moved (omega arith) ∙ behind))
 
-module _ (used gone : ℕ) (ws : List ℕ) (shape : shaped used ws ≡ true) where
-  pub removed-none : gone ≡ 0 → ws ≡ tableOf (length ws) (drop gone (runsOf used ws))
+module _ (used dropped : ℕ) (ws : List ℕ) (shape : shaped used ws ≡ true) where
+  pub removed-none : dropped ≡ 0 → ws ≡ tableOf (length ws) (drop dropped (runsOf used ws))
   removed-none e = table-is used ws shape ∙ ap (λ n. tableOf (length ws) (drop n (runsOf used ws))) (sym e)
 
-  module _ (l : gone ≤ used) where
-    pub moved-there : gone * 3 + (used - gone) * 3 ≤ length ws
+  module _ (l : dropped ≤ used) where
+    pub moved-there : dropped * 3 + (used - dropped) * 3 ≤ length ws
     moved-there = omega (arith, used-words used ws shape)
 
     -- the words after the move and the clearing, as the code leaves them
-    module _ (moved : List ℕ) (m : moved ≡ take ((used - gone) * 3) (drop (gone * 3) ws) ++ drop ((used - gone) * 3) ws) where
+    module _ (moved : List ℕ) (m : moved ≡ take ((used - dropped) * 3) (drop (dropped * 3) ws) ++ drop ((used - dropped) * 3) ws) where
       pub cleared-there : used * 3 ≤ length moved
       cleared-there = rw m (simp (length-append, length-take, length-drop) (omega (arith, used-words used ws shape)))
 
-      pub removed : (part : List ℕ) → part ≡ replicate (length (midOf ((used - gone) * 3) (used * 3 - (used - gone) * 3) moved)) 0 →
-          putMid ((used - gone) * 3) (used * 3 - (used - gone) * 3) moved part ≡ tableOf (length ws) (drop gone (runsOf used ws))
+      pub removed : (part : List ℕ) → part ≡ replicate (length (midOf ((used - dropped) * 3) (used * 3 - (used - dropped) * 3) moved)) 0 →
+          putMid ((used - dropped) * 3) (used * 3 - (used - dropped) * 3) moved part ≡ tableOf (length ws) (drop dropped (runsOf used ws))
       unfolding tableOf
       removed part p =
           let rs : List Run = runsOf used ws in
           let rest : ℕ = length ws - 3 * length rs in
-          let n : ℕ = (used - gone) * 3 in
+          let n : ℕ = (used - dropped) * 3 in
           let is : ws ≡ wordsOf rs ++ replicate rest 0 = table-is used ws shape in
-          let left : gone * 3 + rest ≡ length ws - 3 * length (drop gone rs) =
+          let left : dropped * 3 + rest ≡ length ws - 3 * length (drop dropped rs) =
           simp (length-drop, runs-length) (omega (arith, used-words used ws shape)) in
-          shifted (wordsOf rs) (replicate rest 0) moved part n (gone * 3) (used * 3) (omega arith) (words-length rs ∙ rw runs-length (omega arith))
-          (m ∙ ap (λ t. take n (drop (gone * 3) t) ++ drop n t) is)
+          shifted (wordsOf rs) (replicate rest 0) moved part n (dropped * 3) (used * 3) (omega arith) (words-length rs ∙ rw runs-length (omega arith))
+          (m ∙ ap (λ t. take n (drop (dropped * 3) t) ++ drop n t) is)
           p ∙
-          ap₂ (λ t u. t ++ u) (words-drop gone rs) (replicate-append-replicate (gone * 3) rest 0 ∙ ap (λ k. replicate k 0) left)
+          ap₂ (λ t u. t ++ u) (words-drop dropped rs) (replicate-append-replicate (dropped * 3) rest 0 ∙ ap (λ k. replicate k 0) left)
 
 -- ---- a run less its first references
 
@@ -119,8 +119,8 @@ less-references n x r xs f =
 
 -- ---- the references left are those behind the cut
 
-cut-left : (gone whole into : ℕ) (rs : List Run) → CutAt gone rs whole into → drop into (referencesOf (drop whole rs)) ≡ drop gone (referencesOf rs)
-cut-left gone whole into rs c =
+cut-left : (dropped whole into : ℕ) (rs : List Run) → CutAt dropped rs whole into → drop into (referencesOf (drop whole rs)) ≡ drop dropped (referencesOf rs)
+cut-left dropped whole into rs c =
     sym
     (ap (λ n. drop n (referencesOf rs)) (sym (c .counted)) ∙
     ap (λ xs. drop (length (referencesOf (take whole rs)) + into) (referencesOf xs)) (sym (take-append-drop whole rs)) ∙
@@ -129,10 +129,10 @@ cut-left gone whole into rs c =
 
 -- ---- the table that a drop leaves, step by step as the code has it
 
-pub cut-within : (used gone whole into : ℕ) (ws : List ℕ) → CutAt gone (runsOf used ws) whole into → whole ≤ used
-cut-within used gone whole into ws c = rw runs-length at (c .within)
+pub cut-within : (used dropped whole into : ℕ) (ws : List ℕ) → CutAt dropped (runsOf used ws) whole into → whole ≤ used
+cut-within used dropped whole into ws c = rw runs-length at (c .within)
 
-module _ (used gone whole into left : ℕ) (ws table : List ℕ) (shape : shaped used ws ≡ true) (cut : CutAt gone (runsOf used ws) whole into)
+module _ (used dropped whole into left : ℕ) (ws table : List ℕ) (shape : shaped used ws ≡ true) (cut : CutAt dropped (runsOf used ws) whole into)
     (l : left ≡ used - whole) (is : table ≡ tableOf (length ws) (drop whole (runsOf used ws))) where
   behind : List Run
   behind = drop whole (runsOf used ws)
@@ -145,21 +145,21 @@ module _ (used gone whole into left : ℕ) (ws table : List ℕ) (shape : shaped
   unfolding behind
   behind-shaped = shaped-drop whole (runsOf used ws) (runs-shaped used ws shape)
 
-  -- ---- all runs are gone
+  -- ---- all runs are dropped
 
   module _ (none : left ≡ 0) where
-    no-runs : encode (drop gone (keptIn used ws)) ≡ []
+    no-runs : encode (drop dropped (keptIn used ws)) ≡ []
     unfolding behind encode referencesOf
-    no-runs = ap encode (sym (cut-left gone whole into (runsOf used ws) cut) ∙ go behind (behind-length ∙ none))
+    no-runs = ap encode (sym (cut-left dropped whole into (runsOf used ws) cut) ∙ go behind (behind-length ∙ none))
       where
         go : (rs : List Run) → length rs ≡ 0 → drop into (referencesOf rs) ≡ []
         go [] e = drop-nil into
         go (r ∷ rs) e = let z : ⊥ = omega arith in absurd z
 
-    pub emptied-used : 0 ≡ runsFor (drop gone (keptIn used ws))
+    pub emptied-used : 0 ≡ runsFor (drop dropped (keptIn used ws))
     emptied-used = sym (ap length no-runs)
 
-    pub emptied-table : table ≡ canonical (length ws) (drop gone (keptIn used ws))
+    pub emptied-table : table ≡ canonical (length ws) (drop dropped (keptIn used ws))
     unfolding behind
     emptied-table = is ∙ ap (tableOf (length ws)) (go behind (behind-length ∙ none) ∙ sym no-runs)
       where
@@ -200,19 +200,19 @@ module _ (used gone whole into left : ℕ) (ws table : List ℕ) (shape : shaped
       first-ends = leads first (drop 1 behind) opens-shaped .ends
 
       module _ (r : Run) (less : Less into first r) where
-        left-runs : encode (drop gone (keptIn used ws)) ≡ r ∷ drop 1 behind
+        left-runs : encode (drop dropped (keptIn used ws)) ≡ r ∷ drop 1 behind
         unfolding behind
         left-runs =
             ap encode
-            (sym (cut-left gone whole into (runsOf used ws) cut) ∙
+            (sym (cut-left dropped whole into (runsOf used ws) cut) ∙
             ap (λ rs. drop into (referencesOf rs)) opens ∙
             sym (less-references into first r (drop 1 behind) less)) ∙
             encoded (r ∷ drop 1 behind) (less-shaped into first r (drop 1 behind) less inside opens-shaped)
 
-        pub dropped-used : left ≡ runsFor (drop gone (keptIn used ws))
+        pub dropped-used : left ≡ runsFor (drop dropped (keptIn used ws))
         dropped-used = sym behind-length ∙ ap length opens ∙ sym (ap length left-runs)
 
-        pub dropped-table : (after : List ℕ) → after ≡ withRun table 0 r → after ≡ canonical (length ws) (drop gone (keptIn used ws))
+        pub dropped-table : (after : List ℕ) → after ≡ withRun table 0 r → after ≡ canonical (length ws) (drop dropped (keptIn used ws))
         unfolding behind withRun tableOf wordsOf
         dropped-table after e =
             e ∙

@@ -14,12 +14,12 @@ use Rattle.units.specs.declared.Span.{Span}
 use Rattle.units.specs.Limits.{largestTick, largestSpan, spanHeld}
 use Rattle.window.specs.declared.Reference.{Reference}
 use Rattle.window.specs.Window.{endOf}
-use Rattle.window.specs.References.{Joined, Each}
+use Rattle.window.specs.References.{EndToStart, Each}
 use Rattle.runs.specs.declared.Run.{Run}
 use Rattle.runs.specs.Words.{runEnd, repeated, referencesOf}
 use Rattle.runs.specs.Encoding.{push, encode, runsFor}
-use Rattle.runs.specs.Shape.{runHeld, follows, runsShaped}
-use Rattle.runs.specs.Joining.{Within}
+use Rattle.runs.specs.Shape.{runHeld, followedBy, runsShaped}
+use Rattle.runs.specs.Ends.{Within}
 
 -- ---- a run that is held, as facts
 
@@ -52,20 +52,20 @@ pub record Leads (r : Run) (rs : List Run) : Type 0 where
   pub short : r .span .0 ≤ largestSpan
   pub some : 1 ≤ r .count
   pub ends : runEnd r ≤ largestTick
-  pub next : follows r rs ≡ true
+  pub next : followedBy r rs ≡ true
   pub rest : runsShaped rs ≡ true
 
 pub leads : (r : Run) (rs : List Run) → runsShaped (r ∷ rs) ≡ true → Leads r rs
 unfolding runsShaped
 leads r rs t =
-    let a = and-eq-true-iff (runHeld r && follows r rs) (runsShaped rs) .0 t in
-    let b = and-eq-true-iff (runHeld r) (follows r rs) .0 (a .0) in
+    let a = and-eq-true-iff (runHeld r && followedBy r rs) (runsShaped rs) .0 t in
+    let b = and-eq-true-iff (runHeld r) (followedBy r rs) .0 (a .0) in
     let f = run-facts r (b .0) in
     record { lasts = f .lasts; short = f .short; some = f .some; ends = f .ends; next = b .1; rest = a .1 }
 
 pub first-held : (r : Run) (rs : List Run) → runsShaped (r ∷ rs) ≡ true → runHeld r ≡ true
 unfolding runsShaped
-first-held r rs t = and-eq-true-iff (runHeld r) (follows r rs) .0 (and-eq-true-iff (runHeld r && follows r rs) (runsShaped rs) .0 t .0) .0
+first-held r rs t = and-eq-true-iff (runHeld r) (followedBy r rs) .0 (and-eq-true-iff (runHeld r && followedBy r rs) (runsShaped rs) .0 t .0) .0
 
 pub led : (r : Run) (rs : List Run) → Leads r rs → runsShaped (r ∷ rs) ≡ true
 unfolding runsShaped
@@ -81,7 +81,7 @@ led r rs l =
     (l .rest)
 
 -- a run that leads shaped runs leads others that follow it
-pub leads-too : (r : Run) (xs ys : List Run) → Leads r xs → follows r ys ≡ true → runsShaped ys ≡ true → runsShaped (r ∷ ys) ≡ true
+pub leads-too : (r : Run) (xs ys : List Run) → Leads r xs → followedBy r ys ≡ true → runsShaped ys ≡ true → runsShaped (r ∷ ys) ≡ true
 leads-too r xs ys l next rest =
     led r ys (record { lasts = l .lasts; short = l .short; some = l .some; ends = l .ends; next = next; rest = rest })
 
@@ -114,19 +114,19 @@ abbrev pub Starts : ℕ → List Run → Type 0
 Starts t [] = Unit {0}
 Starts t (x ∷ xs) = x .start .0 ≡ t
 
-pub fresh : (r : Run) (rs : List Run) → follows r rs ≡ true → Fresh (r .span .0) rs
+pub fresh : (r : Run) (rs : List Run) → followedBy r rs ≡ true → Fresh (r .span .0) rs
 fresh r [] f = tt
 fresh r (x ∷ xs) f =
     let b = and-eq-true-iff (eqb (runEnd r) (x .start .0)) (not (eqb (r .span .0) (x .span .0))) .0 f in
     eqb-false (r .span .0) (x .span .0) (not-true (eqb (r .span .0) (x .span .0)) (b .1))
 
-pub starts : (r : Run) (rs : List Run) → follows r rs ≡ true → Starts (runEnd r) rs
+pub starts : (r : Run) (rs : List Run) → followedBy r rs ≡ true → Starts (runEnd r) rs
 starts r [] f = tt
 starts r (x ∷ xs) f =
     let b = and-eq-true-iff (eqb (runEnd r) (x .start .0)) (not (eqb (r .span .0) (x .span .0))) .0 f in
     sym (eqb-true (runEnd r) (x .start .0) (b .0))
 
-pub follow : (r : Run) (rs : List Run) → Fresh (r .span .0) rs → Starts (runEnd r) rs → follows r rs ≡ true
+pub follow : (r : Run) (rs : List Run) → Fresh (r .span .0) rs → Starts (runEnd r) rs → followedBy r rs ≡ true
 follow r [] f s = refl
 follow r (x ∷ xs) f s = ap₂ _&&_ (eq-eqb (runEnd r) (x .start .0) (sym s)) (ap not (ne-eqb (r .span .0) (x .span .0) f))
 
@@ -227,19 +227,19 @@ push-shaped r (x ∷ xs) s w t = go (eqb (r .span .0) (x .span .0)) refl
           rest = t;
         })
 
-starts-encode : (t : ℕ) (rs : List Reference) → Joined t rs → Starts t (encode rs)
+starts-encode : (t : ℕ) (rs : List Reference) → EndToStart t rs → Starts t (encode rs)
 unfolding encode
 starts-encode t [] j = tt
 starts-encode t (r ∷ rs) j = subst (λ (k : ℕ). Starts k (push r (encode rs))) (j .0) (push-starts r (encode rs))
 
-pub references-back : (t : ℕ) (rs : List Reference) → Joined t rs → referencesOf (encode rs) ≡ rs
+pub references-back : (t : ℕ) (rs : List Reference) → EndToStart t rs → referencesOf (encode rs) ≡ rs
 unfolding encode referencesOf
 references-back t [] j = refl
 references-back t (r ∷ rs) j =
     push-references r (encode rs) (starts-encode (endOf r) rs (j .1)) ∙
     ap (λ xs. r ∷ xs) (references-back (endOf r) rs (j .1))
 
-pub shaped-encode : (t : ℕ) (rs : List Reference) → Joined t rs → Each Within rs → runsShaped (encode rs) ≡ true
+pub shaped-encode : (t : ℕ) (rs : List Reference) → EndToStart t rs → Each Within rs → runsShaped (encode rs) ≡ true
 unfolding encode runsShaped
 shaped-encode t [] j w = refl
 shaped-encode t (r ∷ rs) j w =

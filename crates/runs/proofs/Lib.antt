@@ -2,7 +2,7 @@
 pub mod Opening
 pub mod Encoded
 pub mod Tables
-pub mod Joins
+pub mod EndToStart
 pub mod Ends
 pub mod Moving
 pub mod Walking

@@ -59,8 +59,8 @@ words-cleared words ws i e long a b =
 
 -- ---- a run less its first references ends where it ended, so its numbers fit
 
-pub part-fits : (s d n gone : ℕ) → gone ≤ n → s + d * n ≤ largestTick → Fits w64 (d * gone)
-part-fits s d n gone l e = record { fits = omega (arith, mul-le-mul-left d l) }
+pub part-fits : (s d n dropped : ℕ) → dropped ≤ n → s + d * n ≤ largestTick → Fits w64 (d * dropped)
+part-fits s d n dropped l e = record { fits = omega (arith, mul-le-mul-left d l) }
 
-pub start-fits : (s d n gone : ℕ) → gone ≤ n → s + d * n ≤ largestTick → Fits w64 (s + d * gone)
-start-fits s d n gone l e = record { fits = omega (arith, mul-le-mul-left d l) }
+pub start-fits : (s d n dropped : ℕ) → dropped ≤ n → s + d * n ≤ largestTick → Fits w64 (s + d * dropped)
+start-fits s d n dropped l e = record { fits = omega (arith, mul-le-mul-left d l) }

@@ -9,7 +9,7 @@ use lib.ListN.{length, getD, take, drop, length-append}
 use lib.Seq.{getD-drop, drop-drop, drop-cons, take-suc, take-all}
 use Rattle.window.specs.declared.Reference.{Reference}
 use Rattle.runs.specs.declared.Run.{Run}
-use Rattle.runs.specs.Words.{runAt, lastRun, runsOf, wordsOf, repeated, referencesOf}
+use Rattle.runs.specs.Words.{runAt, lastRun, runsOf, wordsOf, repeated, referencesOf, totalCount}
 
 -- ---- lengths
 
@@ -32,13 +32,8 @@ repeated-length s d (suc n) = ap suc (repeated-length (s + d) d n)
 abbrev pub referencesIn : Run → List Reference
 referencesIn r = repeated (r .start .0) (r .span .0) (r .count)
 
--- the sum of the counts
-unfoldable pub total : List Run → ℕ
-total [] = 0
-total (r ∷ rs) = r .count + total rs
-
-pub references-length : (rs : List Run) → length (referencesOf rs) ≡ total rs
-unfolding referencesOf total
+pub references-length : (rs : List Run) → length (referencesOf rs) ≡ totalCount rs
+unfolding referencesOf totalCount
 references-length [] = refl
 references-length (r ∷ rs) =
     length-append (referencesIn r) (referencesOf rs) ∙

@@ -16,26 +16,26 @@ use Rattle.units.specs.declared.Span.{Span}
 use Rattle.runs.specs.declared.Run.{Run}
 use Rattle.runs.specs.Words.{runAt, lastRun, runsOf, wordsOf, capacity, runEnd, repeated, referencesOf, keptIn}
 use Rattle.runs.specs.Encoding.{encode, runsFor, tableOf, canonical}
-use Rattle.runs.specs.Shape.{shaped, runsShaped, follows}
+use Rattle.runs.specs.Shape.{shaped, runsShaped, followedBy}
 use Rattle.runs.specs.Steps.{withRun, needsRun, keptWith, Storable}
 use Rattle.runs.proofs.Opening.{runs-length, words-length, last-opens, referencesIn}
 use Rattle.runs.proofs.Encoded.{span-limits, Leads, leads, led, leads-too, follow, encoded, shaped-last}
 use Rattle.runs.proofs.Tables.{used-words, runs-shaped, table-is}
-use Rattle.runs.proofs.Joins.{references-append, references-of-run, repeated-add, kept-end}
+use Rattle.runs.proofs.EndToStart.{references-append, references-of-run, repeated-add, kept-end}
 
 -- ---- the end of a shaped list, with other runs in its place
 
-follows-tail : (a : Run) (xs : List Run) (x y : Run) (rest other : List Run) → y .start .0 ≡ x .start .0 → y .span .0 ≡ x .span .0 →
-    follows a (xs ++ x ∷ rest) ≡ true → follows a (xs ++ y ∷ other) ≡ true
-follows-tail a [] x y rest other s d f = rw (s, d) f
-follows-tail a (b ∷ xs) x y rest other s d f = f
+followed-tail : (a : Run) (xs : List Run) (x y : Run) (rest other : List Run) → y .start .0 ≡ x .start .0 → y .span .0 ≡ x .span .0 →
+    followedBy a (xs ++ x ∷ rest) ≡ true → followedBy a (xs ++ y ∷ other) ≡ true
+followed-tail a [] x y rest other s d f = rw (s, d) f
+followed-tail a (b ∷ xs) x y rest other s d f = f
 
 shaped-tail : (xs : List Run) (x y : Run) (rest other : List Run) → y .start .0 ≡ x .start .0 → y .span .0 ≡ x .span .0 →
     runsShaped (xs ++ x ∷ rest) ≡ true → runsShaped (y ∷ other) ≡ true → runsShaped (xs ++ y ∷ other) ≡ true
 shaped-tail [] x y rest other s d t u = u
 shaped-tail (a ∷ xs) x y rest other s d t u =
     let l = leads a (xs ++ x ∷ rest) t in
-    leads-too a (xs ++ x ∷ rest) (xs ++ y ∷ other) l (follows-tail a xs x y rest other s d (l .next)) (shaped-tail xs x y rest other s d (l .rest) u)
+    leads-too a (xs ++ x ∷ rest) (xs ++ y ∷ other) l (followed-tail a xs x y rest other s d (l .next)) (shaped-tail xs x y rest other s d (l .rest) u)
 
 -- ---- a run's references behind those of shaped runs
 

@@ -10,12 +10,12 @@ use lib.ListN.{length, drop, replicate, length-append, length-drop, length-repli
 use lib.Seq.{drop-at}
 use borrow.Author.Tests.{leb-true, le-leb, eqb-true}
 use Rattle.window.specs.declared.Reference.{Reference}
-use Rattle.window.specs.References.{Joined, Each}
+use Rattle.window.specs.References.{EndToStart, Each}
 use Rattle.runs.specs.declared.Run.{Run}
 use Rattle.runs.specs.Words.{runsOf, wordsOf, capacity, referencesOf, keptIn}
 use Rattle.runs.specs.Encoding.{encode, runsFor, tableOf, canonical}
 use Rattle.runs.specs.Shape.{runsShaped, zeros, shaped}
-use Rattle.runs.specs.Joining.{Within}
+use Rattle.runs.specs.Ends.{Within}
 use Rattle.runs.proofs.Opening.{runs-length, words-length, words-taken}
 use Rattle.runs.proofs.Encoded.{encoded, references-back, shaped-encode}
 
@@ -100,7 +100,7 @@ table-shaped n rs t l =
 pub canonical-length : (n : ℕ) (rs : List Reference) → runsFor rs ≤ n / 3 → length (canonical n rs) ≡ n
 canonical-length n rs room = table-length n (encode rs) (omega arith)
 
-module _ (t n : ℕ) (rs : List Reference) (joined : Joined t rs) where
+module _ (t n : ℕ) (rs : List Reference) (joined : EndToStart t rs) where
   pub canonical-kept : keptIn (runsFor rs) (canonical n rs) ≡ rs
   canonical-kept = ap referencesOf (table-runs n (encode rs)) ∙ references-back t rs joined
 

@@ -1,4 +1,4 @@
--- A walk over the runs of a shaped table: what is known at each run, how many references have ended, where a drop cuts.
+-- A walk over the runs of a shaped table: what is known at each run, how many references have passed, where a drop cuts.
 use mathlib.Core.Path.{_≡_, sym, ap, _∙_}
 use mathlib.Core.Bool.{true}
 use Prim.Native.Nat.{ℕ, _+_, _-_, _*_, _^_, _≤_, _<_}
@@ -13,13 +13,12 @@ use mir.Val.{Fits}
 use Rattle.runs.specs.declared.Run.{Run}
 use Rattle.runs.specs.Words.{runAt, runsOf, runEnd, referencesOf, keptIn}
 use Rattle.runs.specs.Shape.{shaped, runsShaped}
-use Rattle.runs.specs.Counting.{endedBy}
-use Rattle.runs.specs.Steps.{CutAt}
+use Rattle.runs.specs.Steps.{passedUpto, CutAt}
 use Rattle.runs.proofs.Opening.{runs-length, run-counted, runs-from, repeated-length, referencesIn}
 use Rattle.runs.proofs.Encoded.{Leads, leads, starts, shaped-drop}
 use Rattle.runs.proofs.Tables.{used-words, runs-shaped}
-use Rattle.runs.proofs.Joins.{references-append, references-of-run, references-join, kept-few}
-use Rattle.runs.proofs.Ends.{ended-append, ended-most, none-ended, ends-past}
+use Rattle.runs.proofs.EndToStart.{references-append, references-of-run, references-join, kept-few}
+use Rattle.runs.proofs.Ends.{passed-append, passed-most, none-upto, ends-past}
 
 module _ (used : ℕ) (ws : List ℕ) (shape : shaped used ws ≡ true) where
   -- ---- at a run
@@ -43,36 +42,36 @@ module _ (used : ℕ) (ws : List ℕ) (shape : shaped used ws ≡ true) where
     pub span-lasts : 1 ≤ r .span .0
     span-lasts = leading .lasts
 
-    -- ---- how many have ended by tick t, of the runs before this one and of this one
+    -- ---- how many have passed by tick t, of the runs before this one and of this one
 
-    module _ (t ended here : ℕ) (so-far : ended + endedBy t (referencesOf (drop j (runsOf used ws))) ≡ endedBy t (keptIn used ws))
-        (h : here ≡ endedBy t (referencesIn r)) where
-      pub ended-more : ended + here + endedBy t (referencesOf (drop (j + 1) (runsOf used ws))) ≡ endedBy t (keptIn used ws)
+    module _ (t passed here : ℕ) (so-far : passed + passedUpto t (referencesOf (drop j (runsOf used ws))) ≡ passedUpto t (keptIn used ws))
+        (h : here ≡ passedUpto t (referencesIn r)) where
+      pub passed-more : passed + here + passedUpto t (referencesOf (drop (j + 1) (runsOf used ws))) ≡ passedUpto t (keptIn used ws)
       unfolding referencesOf
-      ended-more =
-          let split : endedBy t (referencesOf (drop j (runsOf used ws))) ≡ here + endedBy t (referencesOf (drop (j + 1) (runsOf used ws))) =
-          ap (λ rs. endedBy t (referencesOf rs)) opened ∙
-          ended-append t (referencesIn r) (referencesOf (drop (j + 1) (runsOf used ws))) ∙
-          ap (λ n. n + endedBy t (referencesOf (drop (j + 1) (runsOf used ws)))) (sym h) in
+      passed-more =
+          let split : passedUpto t (referencesOf (drop j (runsOf used ws))) ≡ here + passedUpto t (referencesOf (drop (j + 1) (runsOf used ws))) =
+          ap (λ rs. passedUpto t (referencesOf rs)) opened ∙
+          passed-append t (referencesIn r) (referencesOf (drop (j + 1) (runsOf used ws))) ∙
+          ap (λ n. n + passedUpto t (referencesOf (drop (j + 1) (runsOf used ws)))) (sym h) in
           omega arith
 
-      pub ended-fits : Fits w64 (ended + here)
-      ended-fits = record { fits = omega (arith, ended-more, ended-most t (keptIn used ws), kept-few used ws shape) }
+      pub passed-fits : Fits w64 (passed + here)
+      passed-fits = record { fits = omega (arith, passed-more, passed-most t (keptIn used ws), kept-few used ws shape) }
 
-      -- a run that has not ended whole: none behind it has ended
-      pub ended-here : here < r .count → ended + here ≡ endedBy t (keptIn used ws)
-      ended-here m =
+      -- a run that has not passed whole: none behind it has passed
+      pub passed-here : here < r .count → passed + here ≡ passedUpto t (keptIn used ws)
+      passed-here m =
           let past : t < runEnd r = ends-past t (r .start .0) (r .span .0) (r .count) span-lasts (rw h at m) in
-          let none : endedBy t (referencesOf (drop (j + 1) (runsOf used ws))) ≡ 0 =
-          none-ended t (runEnd r) (referencesOf (drop (j + 1) (runsOf used ws)))
+          let none : passedUpto t (referencesOf (drop (j + 1) (runsOf used ws))) ≡ 0 =
+          none-upto t (runEnd r) (referencesOf (drop (j + 1) (runsOf used ws)))
           (references-join (runEnd r) (drop (j + 1) (runsOf used ws)) (leading .rest) (starts r (drop (j + 1) (runsOf used ws)) (leading .next)))
           past in
-          omega (arith, ended-more)
+          omega (arith, passed-more)
 
     -- ---- where a drop cuts
 
-    module _ (gone into : ℕ) (so-far : length (referencesOf (take j (runsOf used ws))) + into ≡ gone) where
-      pub cut-more : r .count ≤ into → length (referencesOf (take (j + 1) (runsOf used ws))) + (into - r .count) ≡ gone
+    module _ (dropped into : ℕ) (so-far : length (referencesOf (take j (runsOf used ws))) + into ≡ dropped) where
+      pub cut-more : r .count ≤ into → length (referencesOf (take (j + 1) (runsOf used ws))) + (into - r .count) ≡ dropped
       cut-more m =
           let rs : List Run = runsOf used ws in
           let there : j < length rs = rw runs-length l in
@@ -88,7 +87,7 @@ module _ (used : ℕ) (ws : List ℕ) (shape : shaped used ws ≡ true) where
           ap (λ n. length (referencesOf (take j rs)) + n) (repeated-length (r .start .0) (r .span .0) (r .count)) in
           omega arith
 
-      pub cut-here : into < r .count → CutAt gone (runsOf used ws) j into
+      pub cut-here : into < r .count → CutAt dropped (runsOf used ws) j into
       cut-here m = record { within = rw runs-length (le-of-lt l); counted = so-far; inside = rw opened m }
 
   -- ---- past the last run
@@ -96,14 +95,14 @@ module _ (used : ℕ) (ws : List ℕ) (shape : shaped used ws ≡ true) where
   behind-last : (j : ℕ) → used ≤ j → drop j (runsOf used ws) ≡ []
   behind-last j l = drop-of-length-le (runsOf used ws) {i = j} (rw runs-length l)
 
-  pub ended-whole : (j t ended : ℕ) → used ≤ j → ended + endedBy t (referencesOf (drop j (runsOf used ws))) ≡ endedBy t (keptIn used ws) →
-      ended ≡ endedBy t (keptIn used ws)
-  unfolding referencesOf endedBy
-  ended-whole j t ended l e = sym (add-zero ended) ∙ ap (λ rs. ended + endedBy t (referencesOf rs)) (sym (behind-last j l)) ∙ e
+  pub passed-whole : (j t passed : ℕ) → used ≤ j → passed + passedUpto t (referencesOf (drop j (runsOf used ws))) ≡ passedUpto t (keptIn used ws) →
+      passed ≡ passedUpto t (keptIn used ws)
+  unfolding referencesOf passedUpto
+  passed-whole j t passed l e = sym (add-zero passed) ∙ ap (λ rs. passed + passedUpto t (referencesOf rs)) (sym (behind-last j l)) ∙ e
 
-  pub cut-all : (j gone into : ℕ) → j ≤ used → used ≤ j → length (referencesOf (take j (runsOf used ws))) + into ≡ gone → CutAt gone (runsOf used ws) j into
-  cut-all j gone into a b e = record { within = rw runs-length a; counted = e; inside = rw (behind-last j b) tt }
+  pub cut-all : (j dropped into : ℕ) → j ≤ used → used ≤ j → length (referencesOf (take j (runsOf used ws))) + into ≡ dropped → CutAt dropped (runsOf used ws) j into
+  cut-all j dropped into a b e = record { within = rw runs-length a; counted = e; inside = rw (behind-last j b) tt }
 
-pub cut-none : (rs : List Run) (gone : ℕ) → length (referencesOf (take 0 rs)) + gone ≡ gone
+pub cut-none : (rs : List Run) (dropped : ℕ) → length (referencesOf (take 0 rs)) + dropped ≡ dropped
 unfolding referencesOf
-cut-none rs gone = omega arith
+cut-none rs dropped = omega arith

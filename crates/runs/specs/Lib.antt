@@ -1,6 +1,5 @@
 pub mod Words
 pub mod Encoding
 pub mod Shape
-pub mod Joining
-pub mod Counting
+pub mod Ends
 pub mod Steps

@@ -13,14 +13,18 @@ use Rattle.runs.specs.Words.{runsOf, capacity, runEnd}
 abbrev pub runHeld : Run → Bool
 runHeld r = spanHeld (r .span) && leb 1 (r .count) && leb (runEnd r) largestTick
 
--- a run and the runs behind it: the next begins where it ends, with another duration
-abbrev pub follows : Run → List Run → Bool
-follows r [] = true
-follows r (x ∷ xs) = eqb (runEnd r) (x .start .0) && not (eqb (r .span .0) (x .span .0))
+-- a second run follows a first: it begins where that one ends, with another duration
+abbrev pub follows : Run → Run → Bool
+follows r x = eqb (runEnd r) (x .start .0) && not (eqb (r .span .0) (x .span .0))
+
+-- the same of a run and the runs behind it, if there are any
+abbrev pub followedBy : Run → List Run → Bool
+followedBy r [] = true
+followedBy r (x ∷ xs) = follows r x
 
 unfoldable pub runsShaped : List Run → Bool
 runsShaped [] = true
-runsShaped (r ∷ rs) = runHeld r && follows r rs && runsShaped rs
+runsShaped (r ∷ rs) = runHeld r && followedBy r rs && runsShaped rs
 
 unfoldable pub zeros : List ℕ → Bool
 zeros [] = true

@@ -1,18 +1,24 @@
--- What the inner steps that drop and store references ask and leave. Paper: Append and trim.
-use Prim.Native.Nat.{ℕ, _+_, _*_, _≤_, _<_}
+-- What the inner steps that count, drop and store references ask and leave. It states no rule of the paper.
+use Prim.Native.Nat.{ℕ, suc, _+_, _*_, _≤_, _<_}
 use mathlib.Core.Path.{_≡_}
-use mathlib.Core.Bool.{Bool, true, _||_, not}
+use mathlib.Core.Bool.{Bool, true, cond, _||_, not}
 use mathlib.Core.List.{List, [], _∷_, _++_}
-use lib.Dec.{eqb}
+use lib.Dec.{eqb, leb}
 use lib.ListN.{length, take, drop}
 use Rattle.units.specs.declared.Tick.{Tick}
 use Rattle.units.specs.declared.Span.{Span}
 use Rattle.units.specs.Limits.{largestTick, spanHeld}
 use Rattle.window.specs.declared.Reference.{Reference}
+use Rattle.window.specs.Window.{endOf}
 use Rattle.runs.specs.declared.Run.{Run}
 use Rattle.runs.specs.Words.{lastRun, wordsOf, runEnd, repeated, referencesOf, keptIn}
 use Rattle.runs.specs.Shape.{shaped}
-use Rattle.runs.specs.Joining.{lastEnd}
+use Rattle.runs.specs.Ends.{lastEnd}
+
+-- how many references end at or before a tick
+unfoldable pub passedUpto : ℕ → List Reference → ℕ
+passedUpto t [] = 0
+passedUpto t (r ∷ rs) = cond (leb (endOf r) t) (suc (passedUpto t rs)) (passedUpto t rs)
 
 -- words with those of a run in the place of the three from place i on
 unfoldable pub withRun : List ℕ → ℕ → Run → List ℕ
@@ -30,9 +36,9 @@ Inside n [] = Unit {0}
 Inside n (r ∷ rs) = n < r .count
 
 -- where a drop of so many references cuts the runs: so many whole runs go, and so many references of the run behind them
-pub record CutAt (gone : ℕ) (rs : List Run) (whole into : ℕ) : Type 0 where
+pub record CutAt (dropped : ℕ) (rs : List Run) (whole into : ℕ) : Type 0 where
   pub within : whole ≤ length rs
-  pub counted : length (referencesOf (take whole rs)) + into ≡ gone
+  pub counted : length (referencesOf (take whole rs)) + into ≡ dropped
   pub inside : Inside into (drop whole rs)
 
 -- whether references of so many ticks each need a run of their own: there is no run, or the last one's duration differs

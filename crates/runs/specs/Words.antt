@@ -39,6 +39,11 @@ unfoldable pub referencesOf : List Run → List Reference
 referencesOf [] = []
 referencesOf (r ∷ rs) = repeated (r .start .0) (r .span .0) (r .count) ++ referencesOf rs
 
+-- the counts of runs, added up
+unfoldable pub totalCount : List Run → ℕ
+totalCount [] = 0
+totalCount (r ∷ rs) = r .count + totalCount rs
+
 -- the references that a table with so many used runs keeps
 abbrev pub keptIn : ℕ → List ℕ → List Reference
 keptIn used ws = referencesOf (runsOf used ws)

@@ -1,4 +1,4 @@
-// The words of a table as runs: reading and writing a run, counting the references that have ended,
+// The words of a table as runs: reading and writing a run, counting the references that have passed,
 // dropping references from the front and storing them at the end.
 ghost use mathlib.Core.Path.{_≡_};
 ghost use mathlib.Core.Bool.{true};
@@ -9,7 +9,7 @@ ghost use Rattle.units.specs.Limits.{largestTick};
 ghost use Rattle.runs.specs.Words.{runAt, runsOf, capacity, runEnd, repeated, keptIn};
 ghost use Rattle.runs.specs.Encoding.{runsFor, tableOf, canonical};
 ghost use Rattle.runs.specs.Shape.{shaped};
-ghost use Rattle.runs.specs.Counting.{endedBy};
+ghost use Rattle.runs.specs.Steps.{passedUpto};
 ghost use Rattle.runs.specs.Steps.{withRun, Less, CutAt, needsRun, keptWith, Storable};
 use crate::Run;
 use units::Span;
@@ -44,48 +44,48 @@ fn put_run(table: &mut [u64], i: usize, run: Run)
     table[i + 2] = run.count;
 }
 
-// Inner, since a reference must last: how many of a run's references have ended by a tick.
-pub fn ended_in(run: Run, t: WideTick) -> u64
+// Inner, since a reference must last: how many of a run's references have passed by a tick.
+pub fn passed_in(run: Run, t: WideTick) -> u64
     requires { ⌜ 1 ≤ run .span .0 ⌝ }
-    ensures { λ r. ⌜ r ≡ endedBy (t .0) (repeated (run .start .0) (run .span .0) (run .count)) ⌝ }
+    ensures { λ r. ⌜ r ≡ passedUpto (t .0) (repeated (run .start .0) (run .span .0) (run .count)) ⌝ }
 {
     if t.0 < run.start.0 {
         return 0;
     }
-    let ended = (t.0 - run.start.0) / run.span.0;
-    if ended < run.count {
-        return ended;
+    let passed = (t.0 - run.start.0) / run.span.0;
+    if passed < run.count {
+        return passed;
     }
     run.count
 }
 
-// Inner, since the table must be shaped: how many kept references have ended by a tick. The first
-// run that has not ended whole is the last to look at, since those behind it end later.
-pub fn ended_by(table: &[u64], used: usize, t: WideTick) -> u64
+// Inner, since the table must be shaped: how many kept references have passed by a tick. The first
+// run that has not passed whole is the last to look at, since those behind it end later.
+pub fn passed_upto(table: &[u64], used: usize, t: WideTick) -> u64
     requires { ⌜ shaped used (now table) ≡ true ⌝ }
-    ensures { λ r. ⌜ r ≡ endedBy (t .0) (keptIn used (now (table .entry))) ⌝ }
+    ensures { λ r. ⌜ r ≡ passedUpto (t .0) (keptIn used (now (table .entry))) ⌝ }
 {
-    let mut ended = 0;
+    let mut passed = 0;
     let mut whole = 0;
     while whole < used {
         let run = run_at(table, whole * 3);
-        let here = ended_in(run, t);
+        let here = passed_in(run, t);
         if here < run.count {
-            return ended + here;
+            return passed + here;
         }
-        ended += here;
+        passed += here;
         whole += 1;
     }
-    ended
+    passed
 }
 
 // Inner, since the table must be shaped: where a drop cuts the runs.
-fn cut_at(table: &[u64], used: usize, gone: u64) -> Cut
+fn cut_at(table: &[u64], used: usize, dropped: u64) -> Cut
     requires { ⌜ shaped used (now table) ≡ true ⌝ }
-    ensures { λ r. ⌜ CutAt gone (runsOf used (now (table .entry))) (r .whole) (r .into) ⌝ }
+    ensures { λ r. ⌜ CutAt dropped (runsOf used (now (table .entry))) (r .whole) (r .into) ⌝ }
 {
     let mut whole = 0;
-    let mut into = gone;
+    let mut into = dropped;
     while whole < used {
         let run = run_at(table, whole * 3);
         if into < run.count {
@@ -122,45 +122,45 @@ pub fn clear(words: &mut [u64])
 
 // Inner, since the table must be shaped and have the runs: removes whole runs from the front, and
 // answers how many are left.
-fn remove_runs(table: &mut [u64], used: usize, gone: usize) -> usize
+fn remove_runs(table: &mut [u64], used: usize, dropped: usize) -> usize
     requires { ⌜ shaped used (now table) ≡ true ⌝ }
-    requires { ⌜ gone ≤ used ⌝ }
-    ensures { λ r. ⌜ r ≡ used - gone ⌝ }
-    ensures { λ _. ⌜ now (table .exit) ≡ tableOf (length (now (table .entry))) (drop gone (runsOf used (now (table .entry)))) ⌝ }
+    requires { ⌜ dropped ≤ used ⌝ }
+    ensures { λ r. ⌜ r ≡ used - dropped ⌝ }
+    ensures { λ _. ⌜ now (table .exit) ≡ tableOf (length (now (table .entry))) (drop dropped (runsOf used (now (table .entry)))) ⌝ }
 {
-    if gone == 0 {
+    if dropped == 0 {
         return used;
     }
-    let left = used - gone;
+    let left = used - dropped;
     let words = left * 3;
     let end = used * 3;
-    move_down(table, gone * 3, words);
+    move_down(table, dropped * 3, words);
     clear(&mut table[words..end]);
     left
 }
 
 // Inner, since the run must have them and end within the limit: a run less its first references. Its
 // start moves on, and its end stays.
-fn less_first(run: Run, gone: u64) -> Run
-    requires { ⌜ (gone ≤ run .count) × (runEnd run ≤ largestTick) ⌝ }
-    ensures { λ r. ⌜ Less gone run r ⌝ }
+fn less_first(run: Run, dropped: u64) -> Run
+    requires { ⌜ (dropped ≤ run .count) × (runEnd run ≤ largestTick) ⌝ }
+    ensures { λ r. ⌜ Less dropped run r ⌝ }
 {
     let span = run.span;
     Run {
-        start: Tick(run.start.0 + span.0 * gone),
+        start: Tick(run.start.0 + span.0 * dropped),
         span,
-        count: run.count - gone,
+        count: run.count - dropped,
     }
 }
 
 // Inner, since the table must be shaped: drops references from the front, and answers how many runs
 // are left.
-pub fn drop_front(table: &mut [u64], used: usize, gone: u64) -> usize
+pub fn drop_front(table: &mut [u64], used: usize, dropped: u64) -> usize
     requires { ⌜ shaped used (now table) ≡ true ⌝ }
-    ensures { λ r. ⌜ r ≡ runsFor (drop gone (keptIn used (now (table .entry)))) ⌝ }
-    ensures { λ _. ⌜ now (table .exit) ≡ canonical (length (now (table .entry))) (drop gone (keptIn used (now (table .entry)))) ⌝ }
+    ensures { λ r. ⌜ r ≡ runsFor (drop dropped (keptIn used (now (table .entry)))) ⌝ }
+    ensures { λ _. ⌜ now (table .exit) ≡ canonical (length (now (table .entry))) (drop dropped (keptIn used (now (table .entry)))) ⌝ }
 {
-    let cut = cut_at(table, used, gone);
+    let cut = cut_at(table, used, dropped);
     let left = remove_runs(table, used, cut.whole);
     if left == 0 {
         return 0;

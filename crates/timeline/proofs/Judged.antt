@@ -25,8 +25,8 @@ use Rattle.agreement.specs.Agreement.{agrees}
 use Rattle.keeping.specs.declared.Outcome.the-variants.{Refused}
 use Rattle.keeping.specs.declared.Changed.{Changed}
 use Rattle.keeping.specs.Keeping.{changedBy, wordsBy}
-use Rattle.keeping.specs.Joined.{leftOf, fitOutcome, appended}
-use Rattle.timeline.specs.Appending.{joining, appendOutcome, appendAnswer, appendTable}
+use Rattle.keeping.specs.Append.{unspentOf, fitOutcome, appended}
+use Rattle.timeline.specs.Appending.{byStanding, appendOutcome, appendAnswer, appendTable}
 
 module _ (rec : Record) (ws : List ℕ) (st : Standing) (d n : ℕ) where
   pub disagrees : (t : Bool) → t ≡ agrees rec ws → not t ≡ true → appendOutcome rec ws st d n ≡ Refused refusal.Disagreement
@@ -34,11 +34,11 @@ module _ (rec : Record) (ws : List ℕ) (st : Standing) (d n : ℕ) where
   disagrees t e m = sym (refused t _ _ _ e m)
 
   module _ (a : agrees rec ws ≡ true) where
-    given : (u v : Bool) → eqb d 0 ≡ u → eqb n 0 ≡ v → appendOutcome rec ws st d n ≡ cond (u || v) (Refused refusal.NothingGiven) (joining st (fitOutcome rec ws d n))
+    given : (u v : Bool) → eqb d 0 ≡ u → eqb n 0 ≡ v → appendOutcome rec ws st d n ≡ cond (u || v) (Refused refusal.NothingGiven) (byStanding st (fitOutcome rec ws d n))
     unfolding appendOutcome
     given u v k l =
         sym (chosen _ _ _ _ refl a) ∙
-        ap₂ (λ x y. cond (x || y) (Refused refusal.NothingGiven) (joining st (fitOutcome rec ws d n))) k l
+        ap₂ (λ x y. cond (x || y) (Refused refusal.NothingGiven) (byStanding st (fitOutcome rec ws d n))) k l
 
     pub no-duration : d ≡ 0 → appendOutcome rec ws st d n ≡ Refused refusal.NothingGiven
     no-duration z = given true (eqb n 0) (eq-eqb d 0 z) refl
@@ -48,17 +48,17 @@ module _ (rec : Record) (ws : List ℕ) (st : Standing) (d n : ℕ) where
       no-count z = given false true (ne-eqb d 0 i) (eq-eqb n 0 z)
 
       module _ (j : n ≡ 0 → ⊥) where
-        stands : appendOutcome rec ws st d n ≡ joining st (fitOutcome rec ws d n)
+        stands : appendOutcome rec ws st d n ≡ byStanding st (fitOutcome rec ws d n)
         stands = given false false (ne-eqb d 0 i) (ne-eqb n 0 j)
 
         pub stands-gap : st ≡ Gap → appendOutcome rec ws st d n ≡ Refused refusal.Gap
-        stands-gap e = stands ∙ ap (λ s. joining s (fitOutcome rec ws d n)) e
+        stands-gap e = stands ∙ ap (λ s. byStanding s (fitOutcome rec ws d n)) e
 
         pub stands-overlap : st ≡ Overlap → appendOutcome rec ws st d n ≡ Refused refusal.Overlap
-        stands-overlap e = stands ∙ ap (λ s. joining s (fitOutcome rec ws d n)) e
+        stands-overlap e = stands ∙ ap (λ s. byStanding s (fitOutcome rec ws d n)) e
 
         pub stands-joins : st ≡ Joins → appendOutcome rec ws st d n ≡ fitOutcome rec ws d n
-        stands-joins e = stands ∙ ap (λ s. joining s (fitOutcome rec ws d n)) e
+        stands-joins e = stands ∙ ap (λ s. byStanding s (fitOutcome rec ws d n)) e
 
 -- the same by the span that the constructor made of the duration, which is one of 32 bits
 module _ (rec : Record) (ws : List ℕ) (st : Standing) (d n : ℕ) (a : agrees rec ws ≡ true) (made : SpanMade) (e : made ≡ spanMade d) where
@@ -94,10 +94,10 @@ module _ (rec : Record) (ws : List ℕ) (st : Standing) (d n : ℕ) (a : agrees 
             f ∙ ap (λ (x : Span). changedBy (fitOutcome rec ws (x .0) n) (appended rec ws (x .0) n) rec) is ∙
             ap (λ o. changedBy o (appended rec ws d n) rec) joins
 
-        pub span-words : (vs : List ℕ) → vs ≡ wordsBy (fitOutcome rec ws (s .0) n) (canonical (length ws) (leftOf rec ws (s .0) n)) ws → vs ≡ appendTable rec ws st d n
+        pub span-words : (vs : List ℕ) → vs ≡ wordsBy (fitOutcome rec ws (s .0) n) (canonical (length ws) (unspentOf rec ws (s .0) n)) ws → vs ≡ appendTable rec ws st d n
         span-words vs f =
-            f ∙ ap (λ (x : Span). wordsBy (fitOutcome rec ws (x .0) n) (canonical (length ws) (leftOf rec ws (x .0) n)) ws) is ∙
-            ap (λ o. wordsBy o (canonical (length ws) (leftOf rec ws d n)) ws) joins
+            f ∙ ap (λ (x : Span). wordsBy (fitOutcome rec ws (x .0) n) (canonical (length ws) (unspentOf rec ws (x .0) n)) ws) is ∙
+            ap (λ o. wordsBy o (canonical (length ws) (unspentOf rec ws d n)) ws) joins
 
 -- the standing that was found is the one that is meant
 module _ (rec : Record) (ws : List ℕ) (d n : ℕ) (st meant : Standing) (e : st ≡ meant) where

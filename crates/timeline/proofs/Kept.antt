@@ -1,7 +1,7 @@
 -- Agreement is kept by every accepted call, from any agreeing record and table.
 use mathlib.Core.Path.{_≡_, refl, sym, ap, ap₂, subst⁻¹, _∙_}
 use mathlib.Core.Bool.{Bool, true, false, cond, _&&_, _||_, and-eq-true-iff, true≢false}
-use mathlib.Core.List.{List, [], _++_, append-nil}
+use mathlib.Core.List.{List, [], append-nil, _++_}
 use Prim.Native.Nat.{ℕ, _+_, _-_, _*_, _/_, _≤_}
 use native.Mathlib.Nat.{max-le, sub-zero, suc-ne-zero, le-trans, le-max-left}
 use native.Mathlib.Omega.{arith}
@@ -19,10 +19,10 @@ use Rattle.window.proofs.Limits.{held-is}
 use Rattle.window.specs.Place.{beforeEnd}
 use Rattle.runs.specs.Words.{wordsOf, capacity}
 use Rattle.runs.specs.Encoding.{encode, tableOf, runsFor, canonical}
-use Rattle.runs.specs.Joining.{lastEnd}
+use Rattle.runs.specs.Ends.{lastEnd}
 use Rattle.runs.proofs.Opening.{repeated-length}
 use Rattle.runs.proofs.Tables.{canonical-is, runs-for-kept, used-fits}
-use Rattle.runs.proofs.Joins.{kept-join, kept-within}
+use Rattle.runs.proofs.EndToStart.{kept-join, kept-within}
 use Rattle.agreement.specs.declared.Record.{Record}
 use Rattle.agreement.specs.Agreement.{kept, every, countsHeld, recordHeld, agrees}
 use Rattle.agreement.proofs.Judging.{coming, record-held}
@@ -31,14 +31,15 @@ use Rattle.agreement.specs.declared.refusal.Refusal.the-variants as refusal
 use Rattle.agreement.specs.declared.refusal.Refusal.the-variants.{OverLimit}
 use Rattle.keeping.specs.declared.Outcome.{Outcome}
 use Rattle.keeping.specs.declared.Outcome.the-variants.{Accepted, Refused}
-use Rattle.keeping.specs.Joined.{Fitting, given, allOf, leftOf, roomOutcome, fitOutcome, appended}
+use Rattle.keeping.specs.Append.{given, allOf, unspentOf, roomOutcome, fitOutcome, appended}
+use Rattle.keeping.specs.Steps.{Fitting}
 use Rattle.keeping.specs.Keeping.{unspent}
 use Rattle.keeping.proofs.Unspent.{unspent-append, unspent-every}
 use Rattle.keeping.proofs.Kept.{step-agrees, left-runs, append-keeps}
 use Rattle.keeping.proofs.Outcomes.{refused-not, past-if, past-unless}
 use Rattle.timeline.specs.Opening.{freshRecord, openOutcome}
-use Rattle.timeline.specs.Trimming.{clockRaised, leftAt, trimmed}
-use Rattle.timeline.specs.Appending.{joining, appendOutcome}
+use Rattle.timeline.specs.Trimming.{clockRaised, unspentAt, trimmed}
+use Rattle.timeline.specs.Appending.{byStanding, appendOutcome}
 
 -- ---- opening
 
@@ -94,14 +95,14 @@ module _ (rec : Record) (ws : List ℕ) (c : WideMillis) (a : agrees rec ws ≡ 
   all-there : rec .dropped + length (kept rec ws) ≡ rec .accepted
   all-there = omega (arith, facts .total, facts .held .dropped)
 
-  trim-room : runsFor (leftAt rec ws (c .0)) ≤ length ws / 3
+  trim-room : runsFor (unspentAt rec ws (c .0)) ≤ length ws / 3
   trim-room =
       le-trans
       (left-runs (clockRaised rec (c .0)) (length ws) (getD ws 0 0) (kept rec ws) (kept-join (rec .used) ws (facts .table))
       (kept-within (rec .used) ws (facts .table)) (facts .ends) (facts .begun) all-there)
       (subst⁻¹ (λ (n : ℕ). n ≤ length ws / 3) (runs-for-kept (rec .used) ws (facts .table)) (used-fits (rec .used) ws (facts .table)))
 
-  pub trim-keeps : agrees (trimmed rec ws (c .0)) (canonical (length ws) (leftAt rec ws (c .0))) ≡ true
+  pub trim-keeps : agrees (trimmed rec ws (c .0)) (canonical (length ws) (unspentAt rec ws (c .0))) ≡ true
   trim-keeps =
       step-agrees (clockRaised rec (c .0)) (length ws) (getD ws 0 0) (kept rec ws) (kept-join (rec .used) ws (facts .table))
       (kept-within (rec .used) ws (facts .table)) (facts .ends) (facts .begun) all-there raised-held trim-room
@@ -112,7 +113,7 @@ module _ (rec : Record) (ws : List ℕ) (c : WideMillis) (a : agrees rec ws ≡ 
 
 -- ---- an append that is accepted
 
-past-standing : (st : Standing) (x : Outcome) → joining st x ≡ Accepted → (st ≡ Joins) × (x ≡ Accepted)
+past-standing : (st : Standing) (x : Outcome) → byStanding st x ≡ Accepted → (st ≡ Joins) × (x ≡ Accepted)
 past-standing Joins x e = (refl, e)
 past-standing Gap x e = absurd (refused-not refusal.Gap e)
 past-standing Overlap x e = absurd (refused-not refusal.Overlap e)
@@ -130,13 +131,13 @@ pub record Taken (rec : Record) (ws : List ℕ) (st : Standing) (d n : ℕ) : Ty
   pub ends : rec .next .0 + d * n ≤ largestTick
   pub numbers : countsHeld (rec .head .first .0) (rec .accepted + n) ≡ true
   pub begins : every (λ r. beforeEnd (rec .head) (r .start .0)) (given rec d n) ≡ true
-  pub room : runsFor (leftOf rec ws d n) ≤ capacity ws
+  pub room : runsFor (unspentOf rec ws d n) ≤ capacity ws
 
 pub taken : (rec : Record) (ws : List ℕ) (st : Standing) (d n : ℕ) → appendOutcome rec ws st d n ≡ Accepted → Taken rec ws st d n
 unfolding appendOutcome fitOutcome roomOutcome
 taken rec ws st d n o =
-    let a = past-if (agrees rec ws) (cond (eqb d 0 || eqb n 0) (Refused refusal.NothingGiven) (joining st (fitOutcome rec ws d n))) refusal.Disagreement o in
-    let b = past-unless (eqb d 0 || eqb n 0) (joining st (fitOutcome rec ws d n)) refusal.NothingGiven (a .1) in
+    let a = past-if (agrees rec ws) (cond (eqb d 0 || eqb n 0) (Refused refusal.NothingGiven) (byStanding st (fitOutcome rec ws d n))) refusal.Disagreement o in
+    let b = past-unless (eqb d 0 || eqb n 0) (byStanding st (fitOutcome rec ws d n)) refusal.NothingGiven (a .1) in
     let z = or-none (eqb d 0) (eqb n 0) (b .0) in
     let j = past-standing st (fitOutcome rec ws d n) (b .1) in
     let begins = every (λ r. beforeEnd (rec .head) (r .start .0)) (given rec d n) in
@@ -145,7 +146,7 @@ taken rec ws st d n o =
     (cond counts (cond begins (roomOutcome rec ws d n) (Refused refusal.PastEnd)) (Refused refusal.CountLimit)) refusal.TickLimit (j .1) in
     let c = past-if counts (cond begins (roomOutcome rec ws d n) (Refused refusal.PastEnd)) refusal.CountLimit (e .1) in
     let g = past-if begins (roomOutcome rec ws d n) refusal.PastEnd (c .1) in
-    let r = past-if (leb (runsFor (leftOf rec ws d n)) (capacity ws)) Accepted refusal.NoRunLeft (g .1) in
+    let r = past-if (leb (runsFor (unspentOf rec ws d n)) (capacity ws)) Accepted refusal.NoRunLeft (g .1) in
     record {
       agreed = a .0;
       lasts = eqb-false d 0 (z .0);
@@ -154,7 +155,7 @@ taken rec ws st d n o =
       ends = leb-true (rec .next .0 + d * n) largestTick (e .0);
       numbers = c .0;
       begins = g .0;
-      room = leb-true (runsFor (leftOf rec ws d n)) (capacity ws) (r .0);
+      room = leb-true (runsFor (unspentOf rec ws d n)) (capacity ws) (r .0);
     }
 
 module _ (rec : Record) (ws : List ℕ) (st : Standing) (d n : ℕ) (narrow : d ≤ largestSpan) (o : appendOutcome rec ws st d n ≡ Accepted) where
@@ -169,21 +170,21 @@ module _ (rec : Record) (ws : List ℕ) (st : Standing) (d n : ℕ) (narrow : d 
         counts = t .numbers;
       }
 
-  pub accepted-keeps : agrees (appended rec ws d n) (canonical (length ws) (leftOf rec ws d n)) ≡ true
+  pub accepted-keeps : agrees (appended rec ws d n) (canonical (length ws) (unspentOf rec ws d n)) ≡ true
   accepted-keeps =
       let t = taken rec ws st d n o in
       append-keeps rec ws (record { 0 = d }) n accepted-fits (t .begins) (t .room)
 
   -- an append of references that are all spent only counts: no word changes, and no run
   module _ (spent : unspent (rec .head) (rec .clock .0) (given rec d n) ≡ []) where
-    same-left : leftOf rec ws d n ≡ kept rec ws
+    same-left : unspentOf rec ws d n ≡ kept rec ws
     same-left =
         let f = agreeing rec ws (taken rec ws st d n o .agreed) in
         unspent-append (rec .head) (rec .clock .0) (kept rec ws) (given rec d n) ∙
         ap₂ _++_ (unspent-every (rec .head) (rec .clock .0) (kept rec ws) (f .coming)) spent ∙
         append-nil (kept rec ws)
 
-    pub spent-words : canonical (length ws) (leftOf rec ws d n) ≡ ws
+    pub spent-words : canonical (length ws) (unspentOf rec ws d n) ≡ ws
     spent-words =
         let f = agreeing rec ws (taken rec ws st d n o .agreed) in
         ap (canonical (length ws)) same-left ∙ sym (canonical-is (rec .used) ws (f .table))
@@ -192,7 +193,7 @@ module _ (rec : Record) (ws : List ℕ) (st : Standing) (d n : ℕ) (narrow : d 
         record { head = rec .head; accepted = rec .accepted + n; dropped = rec .dropped + n; next = record { 0 = rec .next .0 + d * n }; clock = rec .clock; used = rec .used }
     spent-counts =
         let f = agreeing rec ws (taken rec ws st d n o .agreed) in
-        let out : length (allOf rec ws d n) - length (leftOf rec ws d n) ≡ n =
+        let out : length (allOf rec ws d n) - length (unspentOf rec ws d n) ≡ n =
         omega (arith, ap length same-left, length-append (kept rec ws) (given rec d n), repeated-length (rec .next .0) d n)
         in
         ap₂ (λ (m u : ℕ). record { head = rec .head; accepted = rec .accepted + n; dropped = rec .dropped + m; next = record { 0 = rec .next .0 + d * n }; clock = rec .clock; used = u })

@@ -1,4 +1,4 @@
--- A trim of an agreeing record and table: what is gone stands in front, and the record counts it.
+-- A trim of an agreeing record and table: what is spent stands in front, and the record counts it.
 use mathlib.Core.Path.{_≡_, sym, ap, ap₂, subst, subst⁻¹, _∙_}
 use mathlib.Core.Bool.{Bool, true, false, cond, not}
 use mathlib.Core.List.{List}
@@ -19,15 +19,15 @@ use Rattle.units.proofs.Makers.{milliseconds}
 use Rattle.window.specs.declared.Passed.{Passed}
 use Rattle.window.specs.Ticks.{EndsPassed}
 use Rattle.runs.specs.Encoding.{runsFor, canonical}
-use Rattle.runs.proofs.Joins.{kept-join}
+use Rattle.runs.proofs.EndToStart.{kept-join}
 use Rattle.agreement.specs.declared.Record.{Record}
 use Rattle.agreement.specs.declared.refusal.Refusal.the-variants.{Disagreement, ClockLimit}
 use Rattle.agreement.specs.Agreement.{kept, agrees}
 use Rattle.agreement.proofs.Agreeing.{Agreeing, agreeing}
 use Rattle.keeping.specs.declared.Outcome.the-variants.{Accepted, Refused}
-use Rattle.keeping.specs.Keeping.{goneOf}
-use Rattle.keeping.proofs.Unspent.{gone-most, unspent-is}
-use Rattle.timeline.specs.Trimming.{leftAt, trimmed, trimOutcome}
+use Rattle.keeping.specs.Steps.{countPassed}
+use Rattle.keeping.proofs.Unspent.{count-most, unspent-is}
+use Rattle.timeline.specs.Trimming.{unspentAt, trimmed, trimOutcome}
 
 module _ (a b : Millis) where
   pub greater-second : a .0 < b .0 → b ≡ record { 0 = max (a .0) (b .0) }
@@ -68,8 +68,8 @@ module _ (rec : Record) (ws : List ℕ) (c : WideMillis) (t : Bool) (e : t ≡ a
       pub trim-made : (r : Record) → r ≡ trimmed rec ws (at .0) → r ≡ trimmed rec ws (c .0)
       trim-made r f = f ∙ ap (λ (x : Millis). trimmed rec ws (x .0)) is
 
-      pub trim-left : (vs : List ℕ) → vs ≡ canonical (length ws) (leftAt rec ws (at .0)) → vs ≡ canonical (length ws) (leftAt rec ws (c .0))
-      trim-left vs f = f ∙ ap (λ (x : Millis). canonical (length ws) (leftAt rec ws (x .0))) is
+      pub trim-left : (vs : List ℕ) → vs ≡ canonical (length ws) (unspentAt rec ws (at .0)) → vs ≡ canonical (length ws) (unspentAt rec ws (c .0))
+      trim-left vs f = f ∙ ap (λ (x : Millis). canonical (length ws) (unspentAt rec ws (x .0))) is
 
 -- ---- the step
 
@@ -87,28 +87,28 @@ module _ (rec : Record) (ws : List ℕ) (a : agrees rec ws ≡ true) where
     pub trim-greatest : g .0 ≤ largestMillis
     trim-greatest = subst⁻¹ (λ (n : ℕ). n ≤ largestMillis) (ap (λ x. x .0) e) (max-le (facts .held .clock) small)
 
-    module _ (p : Passed) (w : EndsPassed (rec .head) (g .0) p) (gone : ℕ) (k : gone ≡ goneOf p (kept rec ws)) where
-      few : gone ≤ length (kept rec ws)
-      few = subst⁻¹ (λ (n : ℕ). n ≤ length (kept rec ws)) k (gone-most p (kept rec ws))
+    module _ (p : Passed) (w : EndsPassed (rec .head) (g .0) p) (spent : ℕ) (k : spent ≡ countPassed p (kept rec ws)) where
+      few : spent ≤ length (kept rec ws)
+      few = subst⁻¹ (λ (n : ℕ). n ≤ length (kept rec ws)) k (count-most p (kept rec ws))
 
-      left-is : leftAt rec ws c ≡ drop gone (kept rec ws)
+      left-is : unspentAt rec ws c ≡ drop spent (kept rec ws)
       left-is =
           unspent-is (rec .head) (max (rec .clock .0) c) p (subst (λ (m : Millis). EndsPassed (rec .head) (m .0) p) e w) (getD ws 0 0) (kept rec ws)
           (kept-join (rec .used) ws (facts .table)) ∙
           ap (λ (n : ℕ). drop n (kept rec ws)) (sym k)
 
-      pub trim-fits : Fits w64 (rec .dropped + gone)
+      pub trim-fits : Fits w64 (rec .dropped + spent)
       trim-fits = record { fits = omega (arith, few, facts .total, facts .held .accepted, facts .held .dropped) }
 
-      counted : rec .dropped + gone ≡ rec .dropped + (length (kept rec ws) - length (leftAt rec ws c))
-      counted = omega (arith, few, ap length left-is, length-drop gone (kept rec ws))
+      counted : rec .dropped + spent ≡ rec .dropped + (length (kept rec ws) - length (unspentAt rec ws c))
+      counted = omega (arith, few, ap length left-is, length-drop spent (kept rec ws))
 
-      pub trim-record : (used : ℕ) → used ≡ runsFor (drop gone (kept rec ws)) →
-          record { head = rec .head; accepted = rec .accepted; dropped = rec .dropped + gone; next = rec .next; clock = g; used = used } ≡ trimmed rec ws c
+      pub trim-record : (used : ℕ) → used ≡ runsFor (drop spent (kept rec ws)) →
+          record { head = rec .head; accepted = rec .accepted; dropped = rec .dropped + spent; next = rec .next; clock = g; used = used } ≡ trimmed rec ws c
       trim-record used u =
           ap₂ (λ (d : ℕ) (x : Millis). record { head = rec .head; accepted = rec .accepted; dropped = d; next = rec .next; clock = x; used = used }) counted e ∙
-          ap (λ (n : ℕ). record { head = rec .head; accepted = rec .accepted; dropped = rec .dropped + (length (kept rec ws) - length (leftAt rec ws c)); next = rec .next; clock = record { 0 = max (rec .clock .0) c }; used = n })
+          ap (λ (n : ℕ). record { head = rec .head; accepted = rec .accepted; dropped = rec .dropped + (length (kept rec ws) - length (unspentAt rec ws c)); next = rec .next; clock = record { 0 = max (rec .clock .0) c }; used = n })
           (u ∙ ap runsFor (sym left-is))
 
-      pub trim-table : (vs : List ℕ) → vs ≡ canonical (length ws) (drop gone (kept rec ws)) → vs ≡ canonical (length ws) (leftAt rec ws c)
+      pub trim-table : (vs : List ℕ) → vs ≡ canonical (length ws) (drop spent (kept rec ws)) → vs ≡ canonical (length ws) (unspentAt rec ws c)
       trim-table vs v = v ∙ ap (canonical (length ws)) (sym left-is)

@@ -1,6 +1,6 @@
 -- An append gives a start, a duration and a count. It is refused with the lowest number that applies: here 2 to 5, and where
--- it joins, 6 to 9 as in `keeping`'s Joined. Accepted, the table is the canonical one of what is left of those kept and those
--- new. Paper: Append and trim; Refusal numbers, 2 to 9.
+-- it joins, 6 to 9 as in `keeping`'s Append. Accepted, the table is the canonical one of those kept and those new that are not
+-- spent. Paper: Append and trim; Refusal numbers, 2 to 9.
 use Prim.Native.Nat.{ℕ}
 use mathlib.Core.Bool.{cond, _||_}
 use mathlib.Core.List.{List}
@@ -16,23 +16,23 @@ use Rattle.keeping.specs.declared.Outcome.{Outcome}
 use Rattle.keeping.specs.declared.Outcome.the-variants.{Refused}
 use Rattle.keeping.specs.declared.Changed.{Changed}
 use Rattle.keeping.specs.Keeping.{changedBy, wordsBy}
-use Rattle.keeping.specs.Joined.{leftOf, fitOutcome, appended}
+use Rattle.keeping.specs.Append.{unspentOf, fitOutcome, appended}
 
 -- what a start that does not join is refused with
-abbrev pub joining : Standing → Outcome → Outcome
-joining Joins o = o
-joining Gap o = Refused refusal.Gap
-joining Overlap o = Refused refusal.Overlap
+abbrev pub byStanding : Standing → Outcome → Outcome
+byStanding Joins o = o
+byStanding Gap o = Refused refusal.Gap
+byStanding Overlap o = Refused refusal.Overlap
 
 -- 2, 3, 4 or 5, then the rest
 unfoldable pub appendOutcome : Record → List ℕ → Standing → ℕ → ℕ → Outcome
 appendOutcome rec ws st d n =
     cond (agrees rec ws)
-    (cond (eqb d 0 || eqb n 0) (Refused refusal.NothingGiven) (joining st (fitOutcome rec ws d n)))
+    (cond (eqb d 0 || eqb n 0) (Refused refusal.NothingGiven) (byStanding st (fitOutcome rec ws d n)))
     (Refused refusal.Disagreement)
 
 abbrev pub appendAnswer : Record → List ℕ → Standing → ℕ → ℕ → Changed
 appendAnswer rec ws st d n = changedBy (appendOutcome rec ws st d n) (appended rec ws d n) rec
 
 abbrev pub appendTable : Record → List ℕ → Standing → ℕ → ℕ → List ℕ
-appendTable rec ws st d n = wordsBy (appendOutcome rec ws st d n) (canonical (length ws) (leftOf rec ws d n)) ws
+appendTable rec ws st d n = wordsBy (appendOutcome rec ws st d n) (canonical (length ws) (unspentOf rec ws d n)) ws

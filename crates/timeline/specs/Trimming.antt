@@ -28,18 +28,18 @@ clockRaised rec c =
       used = rec .used;
     }
 
--- what is left of the kept references then
-abbrev pub leftAt : Record → List ℕ → ℕ → List Reference
-leftAt rec ws c = unspent (rec .head) (max (rec .clock .0) c) (kept rec ws)
+-- the kept references that are not spent then
+abbrev pub unspentAt : Record → List ℕ → ℕ → List Reference
+unspentAt rec ws c = unspent (rec .head) (max (rec .clock .0) c) (kept rec ws)
 
 unfoldable pub trimOutcome : Record → List ℕ → WideMillis → Outcome
 trimOutcome rec ws c = cond (agrees rec ws) (cond (clockHeld c) Accepted (Refused ClockLimit)) (Refused Disagreement)
 
 abbrev pub trimmed : Record → List ℕ → ℕ → Record
-trimmed rec ws c = keeping (clockRaised rec c) (kept rec ws) (leftAt rec ws c)
+trimmed rec ws c = keeping (clockRaised rec c) (kept rec ws) (unspentAt rec ws c)
 
 abbrev pub trimAnswer : Record → List ℕ → WideMillis → Changed
 trimAnswer rec ws c = changedBy (trimOutcome rec ws c) (trimmed rec ws (c .0)) rec
 
 abbrev pub trimTable : Record → List ℕ → WideMillis → List ℕ
-trimTable rec ws c = wordsBy (trimOutcome rec ws c) (canonical (length ws) (leftAt rec ws (c .0))) ws
+trimTable rec ws c = wordsBy (trimOutcome rec ws c) (canonical (length ws) (unspentAt rec ws (c .0))) ws

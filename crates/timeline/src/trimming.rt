@@ -6,12 +6,12 @@ ghost use lib.ListN.{length};
 ghost use Rattle.units.specs.Limits.{largestMillis};
 ghost use Rattle.runs.specs.Encoding.{canonical};
 ghost use Rattle.agreement.specs.Agreement.{agrees};
-ghost use Rattle.timeline.specs.Trimming.{leftAt, trimmed, trimAnswer, trimTable};
+ghost use Rattle.timeline.specs.Trimming.{unspentAt, trimmed, trimAnswer, trimTable};
 use agreement::Record;
 use agreement::Refusal;
 use keeping::Changed;
 use keeping::accepted;
-use keeping::gone_in;
+use keeping::count_passed;
 use keeping::refused;
 use units::Millis;
 use units::MillisMade;
@@ -30,22 +30,22 @@ fn greater(a: Millis, b: Millis) -> Millis
 fn trim_agreeing(rec: Record, table: &mut [u64], clock: Millis) -> Record
     requires { ⌜ (agrees rec (now table) ≡ true) × (clock .0 ≤ largestMillis) ⌝ }
     ensures { λ r. ⌜ r ≡ trimmed rec (now (table .entry)) (clock .0) ⌝ }
-    ensures { λ _. ⌜ now (table .exit) ≡ canonical (length (now (table .entry))) (leftAt rec (now (table .entry)) (clock .0)) ⌝ }
+    ensures { λ _. ⌜ now (table .exit) ≡ canonical (length (now (table .entry))) (unspentAt rec (now (table .entry)) (clock .0)) ⌝ }
 {
     let greatest = greater(rec.clock, clock);
     let passed = rec.head.passed_ends(greatest);
     let used = rec.used;
-    let gone = gone_in(passed, table, used, rec.accepted - rec.dropped);
-    let left = runs::table::drop_front(table, used, gone);
+    let spent = count_passed(passed, table, used, rec.accepted - rec.dropped);
+    let then = runs::table::drop_front(table, used, spent);
     let head = rec.head;
     let next = rec.next;
     Record {
         head,
         accepted: rec.accepted,
-        dropped: rec.dropped + gone,
+        dropped: rec.dropped + spent,
         next,
         clock: greatest,
-        used: left,
+        used: then,
     }
 }
 

@@ -18,8 +18,9 @@ use Rattle.window.specs.declared.Head.{Head}
 use Rattle.window.specs.declared.Needed.{Needed}
 use Rattle.window.specs.declared.Needed.the-variants.{Nothing, Ticks}
 use Rattle.window.specs.declared.Passed.the-variants.{All, Upto}
-use Rattle.window.specs.Place.{Past, endKnown, periodEnd, place, beforeEnd, endedBy}
-use Rattle.window.specs.Window.{inside, lowEdge, highEdge, windowAt, wholePeriod, passed, tickNeeded}
+use Rattle.window.specs.Place.{endKnown, periodEnd, place, beforeEnd}
+use Rattle.window.specs.Steps.{Past, inside, overBy}
+use Rattle.window.specs.Window.{lowEdge, highEdge, windowAt, wholePeriod, passed, tickNeeded}
 use Rattle.window.specs.Ticks.{EndsPassed, NeededTicks, LeastCount, reachesEnd}
 use Rattle.window.proofs.Ranges.{in-range, range-first, range-last}
 use Rattle.window.proofs.Unsigned.{endAt, placeN, lowN, cutN, highN, later-start, low-is, high-up, passed-is, tick-is, window-inside, place-is, starts-before, not-known, is-known}
@@ -73,15 +74,15 @@ count-fits x w a b c d e f p q l = record { fits = omega (arith, p .small, q .sm
 module _ (h : Head) where
   -- ---- the period end
 
-  ended-is : (x : ℕ) → endedBy h x ≡ cond (endKnown h) (leb (endAt h) x) false
+  over-is : (x : ℕ) → overBy h x ≡ cond (endKnown h) (leb (endAt h) x) false
   unfolding periodEnd
-  ended-is x = refl
+  over-is x = refl
 
-  pub ended-open : (x : ℕ) → h .duration .0 ≡ 0 → false ≡ endedBy h x
-  ended-open x e = sym (ended-is x ∙ ap (λ t. cond t (leb (endAt h) x) false) (not-known h e))
+  pub over-open : (x : ℕ) → h .duration .0 ≡ 0 → false ≡ overBy h x
+  over-open x e = sym (over-is x ∙ ap (λ t. cond t (leb (endAt h) x) false) (not-known h e))
 
-  pub ended-known : (e x most : ℕ) → (h .duration .0 ≡ 0 → ⊥) → Product e (h .duration .0) (h .timescale .0) most → leb e x ≡ endedBy h x
-  ended-known e x most n p = ap (λ (m : ℕ). leb m x) (p .is) ∙ sym (ended-is x ∙ ap (λ t. cond t (leb (endAt h) x) false) (is-known h n))
+  pub over-known : (e x most : ℕ) → (h .duration .0 ≡ 0 → ⊥) → Product e (h .duration .0) (h .timescale .0) most → leb e x ≡ overBy h x
+  over-known e x most n p = ap (λ (m : ℕ). leb m x) (p .is) ∙ sym (over-is x ∙ ap (λ t. cond t (leb (endAt h) x) false) (is-known h n))
 
   -- ---- the ends that are passed
 
@@ -92,15 +93,15 @@ module _ (h : Head) where
     against : (e : ℕ) → passed h e c ≡ leb (cutN h (placeN h e)) r
     against e = passed-is h e c ∙ ap (leb (cutN h (placeN h e))) (sym low-at)
 
-    pub all-passed : (t : Bool) → t ≡ endedBy h r → t ≡ true → EndsPassed h c All
-    all-passed t w f e = against e ∙ go (endKnown h) (sym (ended-is r) ∙ sym w ∙ f)
+    pub all-passed : (t : Bool) → t ≡ overBy h r → t ≡ true → EndsPassed h c All
+    all-passed t w f e = against e ∙ go (endKnown h) (sym (over-is r) ∙ sym w ∙ f)
       where
         go : (k : Bool) → cond k (leb (endAt h) r) false ≡ true → leb (cond k (min (endAt h) (placeN h e)) (placeN h e)) r ≡ true
         go true g = let l : endAt h ≤ r = leb-true (endAt h) r g in le-leb (min (endAt h) (placeN h e)) r (omega arith)
         go false g = absurd (false≢true g)
 
-    pub upto-passed : (t : Bool) → t ≡ endedBy h r → t ≡ false → EndsPassed h c (Upto (record { 0 = h .offset .0 + r / 1000 }))
-    upto-passed t w f e = against e ∙ go (endKnown h) (sym (ended-is r) ∙ sym w ∙ f) ∙ end-side e (h .offset .0) r
+    pub upto-passed : (t : Bool) → t ≡ overBy h r → t ≡ false → EndsPassed h c (Upto (record { 0 = h .offset .0 + r / 1000 }))
+    upto-passed t w f e = against e ∙ go (endKnown h) (sym (over-is r) ∙ sym w ∙ f) ∙ end-side e (h .offset .0) r
       where
         go : (k : Bool) → cond k (leb (endAt h) r) false ≡ false → leb (cond k (min (endAt h) (placeN h e)) (placeN h e)) r ≡ leb (placeN h e) r
         go true g =
@@ -184,10 +185,11 @@ module _ (h : Head) where
     by-ticks =
         let count : ℕ = (e + o - a - 1) / (d * 1000) + 1 in
         record {
-          enough =
+          some = omega arith;
+          reaches =
               reaches count ∙
               le-leb (e + o) (a + count * (d * 1000)) (omega (arith, some-left, up-enough (e + o - a) (d * 1000) (omega (arith, some-left)) (omega arith)));
-          least = λ n l.
+          least = λ n some l.
               reaches n ∙
               lt-leb (e + o) (a + n * (d * 1000)) (omega (arith, some-left, up-least (e + o - a) (d * 1000) n (omega (arith, some-left)) l));
         }

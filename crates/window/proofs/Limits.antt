@@ -2,7 +2,7 @@
 use mathlib.Core.Path.{_≡_, ap₂}
 use mathlib.Core.Bool.{Bool, true, _&&_, and-eq-true-iff}
 use borrow.Author.Tests.{leb-true, le-leb}
-use Rattle.units.specs.Exactly.{Exactly}
+use Rattle.units.specs.Exactly.{ExactlyWhen}
 use Rattle.units.specs.Limits.{largestTick, largestMillis, largestTimescale, largestNumber, tickHeld, millisHeld, timescaleHeld, numberHeld}
 use Rattle.window.specs.declared.Head.{Head}
 use Rattle.window.specs.Limits.{headHeld, Held}
@@ -30,7 +30,7 @@ each-held h e =
     record { timescale = t .0; offset = t .1; start = d .1; duration = c .1; depth = b .1; first = a .1 }
 
 -- the test is right
-pub held-is : (h : Head) → Exactly (headHeld h) (Held h)
+pub held-is : (h : Head) → ExactlyWhen (headHeld h ≡ true) (Held h)
 held-is h = record { only = only; if = if }
   where
     only : headHeld h ≡ true → Held h

@@ -12,7 +12,8 @@ use Rattle.units.proofs.Choice.{either}
 use Rattle.units.specs.Limits.{largestMillis, largestTimescale}
 use Rattle.units.specs.Product.{Product}
 use Rattle.window.specs.declared.Head.{Head}
-use Rattle.window.specs.Place.{Past, endKnown, beforeEnd}
+use Rattle.window.specs.Place.{endKnown, beforeEnd}
+use Rattle.window.specs.Steps.{Past}
 use Rattle.window.specs.Window.{lowEdge, highEdge}
 use Rattle.window.proofs.Unsigned.{endAt, sinceStart, sinceDepth, lowN, cutN, highN, later-start, low-is, high-up, before-is, not-known, is-known}
 

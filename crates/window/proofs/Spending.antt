@@ -9,12 +9,12 @@ use mathlib.Core.List.{List, [], _∷_}
 use lib.ListN.{take, drop}
 use borrow.Author.Tests.{leb-true, leb-false, eqb-false, le-ltb, lt-ltb, le-leb}
 use lib.Dec.{leb, eqb}
-use Rattle.units.specs.Exactly.{Exactly}
+use Rattle.units.specs.Exactly.{ExactlyWhen}
 use Rattle.window.specs.declared.Head.{Head}
 use Rattle.window.specs.declared.Reference.{Reference}
 use Rattle.window.specs.Place.{endKnown, beforeEnd}
 use Rattle.window.specs.Window.{endOf, needed, Spent, passed}
-use Rattle.window.specs.References.{Joined, Each, Sound}
+use Rattle.window.specs.References.{EndToStart, Each, Sound}
 use Rattle.window.proofs.Unsigned.{endAt, placeN, lowN, cutN, highN, passed-is, needed-is, starts-before}
 
 module _ (h : Head) where
@@ -172,7 +172,7 @@ module _ (h : Head) where
         needed-once r c rated lasts begins (leb-false (cutN h (placeN h (endOf r))) (lowN h c) e)
 
     -- THE LAW: the comparison is true exactly where the reference is spent
-    pub spent-is : Exactly (passed h (endOf r) c) (Spent h r c)
+    pub spent-is : ExactlyWhen (passed h (endOf r) c ≡ true) (Spent h r c)
     spent-is = record { only = passed-spent r c; if = λ s. go s (passed h (endOf r) c) refl }
       where
         go : Spent h r c → (t : Bool) → passed h (endOf r) c ≡ t → t ≡ true
@@ -196,13 +196,13 @@ module _ (h : Head) where
     not-spent r s p q = true≢false (sym (spent-is r c rated (s .lasts) (s .begins) .if q) ∙ p)
 
     -- after one that is not spent, none is
-    none-spent : (t : ℕ) (rs : List Reference) → Joined t rs → Each (Sound h) rs → passed h t c ≡ false → Each (λ r. Spent h r c → ⊥) rs
+    none-spent : (t : ℕ) (rs : List Reference) → EndToStart t rs → Each (Sound h) rs → passed h t c ≡ false → Each (λ r. Spent h r c → ⊥) rs
     none-spent t [] j s p = tt
     none-spent t (r ∷ rs) j s p =
         let q : passed h (endOf r) c ≡ false = coming-later t (endOf r) c (omega (arith, j .0)) p in
         (not-spent r (s .0) q, none-spent (endOf r) rs (j .1) (s .1) q)
 
-    pub spent-first : (t : ℕ) (rs : List Reference) → Joined t rs → Each (Sound h) rs →
+    pub spent-first : (t : ℕ) (rs : List Reference) → EndToStart t rs → Each (Sound h) rs →
         (n : ℕ) × Each (λ r. Spent h r c) (take n rs) × Each (λ r. Spent h r c → ⊥) (drop n rs)
     spent-first t [] j s = (0, tt, tt)
     spent-first t (r ∷ rs) j s = go (spent-first (endOf r) rs (j .1) (s .1)) (passed h (endOf r) c) refl

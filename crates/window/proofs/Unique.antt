@@ -12,23 +12,23 @@ use Rattle.window.specs.declared.Passed.the-variants.{All, Upto}
 use Rattle.window.specs.declared.Needed.{Needed}
 use Rattle.window.specs.declared.Needed.the-variants.{Nothing, Ticks}
 use Rattle.window.specs.Window.{Stretch}
-use Rattle.window.specs.Ticks.{reached, EndsPassed, named, NamesSome, NeededTicks, LeastCount}
+use Rattle.window.specs.Ticks.{isPassed, EndsPassed, named, NamesSome, NeededTicks, LeastCount}
 use Rattle.window.proofs.Ranges.{in-range, range-first, range-last}
 
 -- ---- ends
 
-reached-more : (t u : ℕ) → ((e : ℕ) → leb e t ≡ leb e u) → t ≤ u
-reached-more t u same = leb-true t u (sym (same t) ∙ le-leb t t (le-refl t))
+passed-more : (t u : ℕ) → ((e : ℕ) → leb e t ≡ leb e u) → t ≤ u
+passed-more t u same = leb-true t u (sym (same t) ∙ le-leb t t (le-refl t))
 
-same-reached : (p q : Passed) → ((e : ℕ) → reached p e ≡ reached q e) → p ≡ q
-same-reached All All same = refl
-same-reached All (Upto u) same = absurd (true≢false (same (suc (u .0)) ∙ lt-leb (suc (u .0)) (u .0) (omega arith)))
-same-reached (Upto t) All same = absurd (false≢true (sym (lt-leb (suc (t .0)) (t .0) (omega arith)) ∙ same (suc (t .0))))
-same-reached (Upto t) (Upto u) same =
-    ap (λ (n : ℕ). Upto (record { 0 = n })) (le-antisymm (reached-more (t .0) (u .0) same) (reached-more (u .0) (t .0) (λ e. sym (same e))))
+same-passed : (p q : Passed) → ((e : ℕ) → isPassed p e ≡ isPassed q e) → p ≡ q
+same-passed All All same = refl
+same-passed All (Upto u) same = absurd (true≢false (same (suc (u .0)) ∙ lt-leb (suc (u .0)) (u .0) (omega arith)))
+same-passed (Upto t) All same = absurd (false≢true (sym (lt-leb (suc (t .0)) (t .0) (omega arith)) ∙ same (suc (t .0))))
+same-passed (Upto t) (Upto u) same =
+    ap (λ (n : ℕ). Upto (record { 0 = n })) (le-antisymm (passed-more (t .0) (u .0) same) (passed-more (u .0) (t .0) (λ e. sym (same e))))
 
 pub one-passed : (h : Head) (c : ℕ) (p q : Passed) → EndsPassed h c p → EndsPassed h c q → p ≡ q
-one-passed h c p q x y = same-reached p q (λ e. sym (x e) ∙ y e)
+one-passed h c p q x y = same-passed p q (λ e. sym (x e) ∙ y e)
 
 -- ---- ticks
 
@@ -60,4 +60,4 @@ one-least h s d m n x y = le-antisymm (no-less x y) (no-less y x)
       where
         go : (t : Bool) → leb a b ≡ t → a ≤ b
         go true e = leb-true a b e
-        go false e = absurd (false≢true (sym (p .least b (leb-false a b e)) ∙ q .enough))
+        go false e = absurd (false≢true (sym (p .least b (q .some) (leb-false a b e)) ∙ q .reaches))

@@ -3,3 +3,4 @@ pub mod Place
 pub mod Window
 pub mod References
 pub mod Ticks
+pub mod Steps

@@ -1,10 +1,8 @@
 -- Where ticks and milliseconds stand, in signed grains counted from the period start. A tick is 1000 grains and a
 -- millisecond is timescale grains, so both are whole and compare exactly. The tick that the offset names stands at the
 -- period start, and an earlier tick stands before it, at a negative place. Paper: Units.
-use Prim.Native.Nat.{ℕ, _*_, _≤_}
-use mathlib.Core.Path.{_≡_}
-use Rattle.units.specs.Limits.{largestMillis, largestTimescale}
-use mathlib.Core.Bool.{Bool, true, false, cond, not}
+use Prim.Native.Nat.{ℕ, _*_}
+use mathlib.Core.Bool.{Bool, true, cond, not}
 use lib.Dec.{eqb}
 use lib.IntN.{ℤ, pos, _-ℤ_, _*ℤ_}
 use lib.Signed.{leZ, ltZ}
@@ -38,12 +36,3 @@ cutToEnd h z = cond (endKnown h) (earlier (periodEnd h) z) z
 -- whether tick k lies before the period end, equal being at it
 abbrev pub beforeEnd : Head → ℕ → Bool
 beforeEnd h k = cond (endKnown h) (ltZ (place h k) (periodEnd h)) true
-
--- whether the period has ended by a point that lies so many grains past its start
-abbrev pub endedBy : Head → ℕ → Bool
-endedBy h x = cond (endKnown h) (leZ (periodEnd h) (pos x)) false
-
--- r is the point z in grains past the period start, or 0 where z lies before it
-pub record Past (r : ℕ) (z : ℤ) : Type 0 where
-  pub is : pos r ≡ later (pos 0) z
-  pub small : r ≤ largestMillis * largestTimescale

@@ -9,9 +9,9 @@ use Rattle.window.specs.Place.{beforeEnd}
 use Rattle.window.specs.Window.{endOf}
 
 -- the first starts at tick t, and each other where the one before it ends
-abbrev pub Joined : ℕ → List Reference → Type 0
-Joined t [] = Unit {0}
-Joined t (r ∷ rs) = (r .start .0 ≡ t) × Joined (endOf r) rs
+abbrev pub EndToStart : ℕ → List Reference → Type 0
+EndToStart t [] = Unit {0}
+EndToStart t (r ∷ rs) = (r .start .0 ≡ t) × EndToStart (endOf r) rs
 
 abbrev pub Each : (Reference → Type 0) → List Reference → Type 0
 Each P [] = Unit {0}

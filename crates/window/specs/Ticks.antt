@@ -1,6 +1,6 @@
 -- What the questions about a window are answered with, and when an answer is right. Paper: Window, needed, spent; The file
 -- (negative r).
-use Prim.Native.Nat.{ℕ, _+_, _*_, _<_}
+use Prim.Native.Nat.{ℕ, _+_, _*_, _≤_, _<_}
 use mathlib.Core.Path.{_≡_}
 use mathlib.Core.Bool.{Bool, true, false, _&&_}
 use lib.Dec.{leb, ltb}
@@ -14,13 +14,13 @@ use Rattle.window.specs.Place.{place, periodEnd}
 use Rattle.window.specs.Window.{Stretch, passed, tickNeeded}
 
 -- the ends that an answer says are passed
-abbrev pub reached : Passed → ℕ → Bool
-reached All e = true
-reached (Upto t) e = leb e (t .0)
+abbrev pub isPassed : Passed → ℕ → Bool
+isPassed All e = true
+isPassed (Upto t) e = leb e (t .0)
 
 -- it says so of exactly those that are passed at clock c
 abbrev pub EndsPassed : Head → ℕ → Passed → Type 0
-EndsPassed h c p = (e : ℕ) → passed h e c ≡ reached p e
+EndsPassed h c p = (e : ℕ) → passed h e c ≡ isPassed p e
 
 -- the ticks that an answer names: from the first up to the second, that one excluded
 abbrev pub named : Needed → ℕ → Bool
@@ -40,7 +40,8 @@ pub record NeededTicks (h : Head) (w : Stretch) (n : Needed) : Type 0 where
 abbrev pub reachesEnd : Head → ℕ → Bool
 reachesEnd h k = leZ (periodEnd h) (place h k)
 
--- n is the least count of references of d ticks from tick s whose end reaches or passes the period end
+-- n is the least count, one at least, of references of d ticks from tick s whose end reaches or passes the period end
 pub record LeastCount (h : Head) (s d n : ℕ) : Type 0 where
-  pub enough : reachesEnd h (s + d * n) ≡ true
-  pub least : (m : ℕ) → m < n → reachesEnd h (s + d * m) ≡ false
+  pub some : 1 ≤ n
+  pub reaches : reachesEnd h (s + d * n) ≡ true
+  pub least : (m : ℕ) → 1 ≤ m → m < n → reachesEnd h (s + d * m) ≡ false

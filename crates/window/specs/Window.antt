@@ -17,10 +17,6 @@ pub record Stretch : Type 0 where
   pub from : ℤ
   pub to : ℤ
 
--- a stretch inside the period, in grains past its start
-abbrev pub inside : ℕ → ℕ → Stretch
-inside from to = record { from = pos from; to = pos to }
-
 -- two stretches overlap where they share one of positive length: to meet is not to overlap
 abbrev pub overlaps : Stretch → Stretch → Bool
 overlaps a b = ltZ (later (a .from) (b .from)) (earlier (a .to) (b .to))

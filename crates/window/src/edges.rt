@@ -4,7 +4,8 @@ ghost use mathlib.Core.Path.{_≡_};
 ghost use Prim.Native.Nat.{_≤_};
 ghost use Rattle.units.specs.Limits.{largestTick, largestMillis};
 ghost use Rattle.window.specs.Limits.{Held};
-ghost use Rattle.window.specs.Place.{Past, beforeEnd, endedBy};
+ghost use Rattle.window.specs.Place.{beforeEnd};
+ghost use Rattle.window.specs.Steps.{Past, overBy};
 ghost use Rattle.window.specs.Window.{lowEdge, highEdge};
 use crate::Head;
 use units::Grains;
@@ -27,10 +28,10 @@ impl Head {
         place.0 < zero.0 + end.0
     }
 
-    // Whether the period has ended by a point. Inner: callers show the limits, as above.
-    pub(crate) fn ended_by(self, at: Grains) -> bool
+    // Whether the period is over by a point. Inner: callers show the limits, as above.
+    pub(crate) fn over_by(self, at: Grains) -> bool
         requires { ⌜ Held self ⌝ }
-        ensures { λ r. ⌜ r ≡ endedBy self (at .0) ⌝ }
+        ensures { λ r. ⌜ r ≡ overBy self (at .0) ⌝ }
     {
         if self.duration.0 == 0 {
             return false;

@@ -6,7 +6,8 @@ ghost use Prim.Native.Nat.{_*_, _≤_};
 ghost use Rattle.units.specs.Limits.{largestTick, largestMillis, largestTimescale, largestSpan};
 ghost use Rattle.window.specs.Limits.{Held};
 ghost use Rattle.window.specs.Place.{endKnown, beforeEnd};
-ghost use Rattle.window.specs.Window.{inside, windowAt, wholePeriod};
+ghost use Rattle.window.specs.Window.{windowAt, wholePeriod};
+ghost use Rattle.window.specs.Steps.{inside};
 ghost use Rattle.window.specs.Ticks.{EndsPassed, NeededTicks, LeastCount};
 use crate::Head;
 use crate::Needed;
@@ -25,7 +26,7 @@ impl Head {
         ensures { λ r. ⌜ EndsPassed self (clock .0) r ⌝ }
     {
         let low = self.low(clock);
-        if self.ended_by(low) {
+        if self.over_by(low) {
             return Passed::All;
         }
         Passed::Upto(WideTick(self.offset.0 + low.0 / 1000))

@@ -9,10 +9,10 @@ use Rattle.runs.proofs.table.cut_at.Statement.{statement}
 use Rattle.runs.proofs.table.cut_at.Tie as tie
 
 abbrev Inv-loop : tie.InvT-loop
-Inv-loop table used gone whole₀ into₀ whole into = (whole ≤ used) × (length (referencesOf (take whole (runsOf used table))) + into ≡ gone)
+Inv-loop table used dropped whole₀ into₀ whole into = (whole ≤ used) × (length (referencesOf (take whole (runsOf used table))) + into ≡ dropped)
 
 abbrev μ-loop : tie.MeasureT-loop
-μ-loop table used gone whole₀ into₀ whole into = used - whole
+μ-loop table used dropped whole₀ into₀ whole into = used - whole
 
 returns : tie.Need-returns Inv-loop μ-loop
 returns c =

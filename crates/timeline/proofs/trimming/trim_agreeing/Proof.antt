@@ -1,4 +1,4 @@
--- `trim_agreeing` meets its contract: what is gone is dropped from the front and counted.
+-- `trim_agreeing` meets its contract: what is spent is dropped from the front and counted.
 use borrow.Author.Needs.{needs}
 use Rattle.agreement.proofs.Agreeing.{agree-head, agree-shaped}
 use Rattle.timeline.proofs.Trims.{trim-counts, trim-total, trim-greatest, trim-fits, trim-record, trim-table}

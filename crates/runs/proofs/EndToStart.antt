@@ -10,11 +10,11 @@ use lib.Seq.{drop-at}
 use Rattle.units.specs.Limits.{largestTick, largestSpan}
 use Rattle.window.specs.declared.Reference.{Reference}
 use Rattle.window.specs.Window.{endOf}
-use Rattle.window.specs.References.{Joined, Each}
+use Rattle.window.specs.References.{EndToStart, Each}
 use Rattle.runs.specs.declared.Run.{Run}
 use Rattle.runs.specs.Words.{lastRun, runsOf, runEnd, repeated, referencesOf, keptIn}
 use Rattle.runs.specs.Shape.{runsShaped, shaped}
-use Rattle.runs.specs.Joining.{lastEnd, Within}
+use Rattle.runs.specs.Ends.{lastEnd, Within}
 use Rattle.runs.proofs.Opening.{last-opens, referencesIn, repeated-length}
 use Rattle.runs.proofs.Encoded.{leads, shaped-last, Starts, starts, ref}
 use Rattle.runs.proofs.Tables.{runs-shaped}
@@ -26,12 +26,12 @@ unfolding lastEnd
 end-append t [] ys = refl
 end-append t (x ∷ xs) ys = end-append (endOf x) xs ys
 
-pub join-append : (t : ℕ) (xs ys : List Reference) → Joined t xs → Joined (lastEnd t xs) ys → Joined t (xs ++ ys)
+pub join-append : (t : ℕ) (xs ys : List Reference) → EndToStart t xs → EndToStart (lastEnd t xs) ys → EndToStart t (xs ++ ys)
 unfolding lastEnd
 join-append t [] ys j k = k
 join-append t (x ∷ xs) ys j k = (j .0, join-append (endOf x) xs ys (j .1) k)
 
-pub join-back : (t : ℕ) (xs ys : List Reference) → Joined t (xs ++ ys) → Joined (lastEnd t xs) ys
+pub join-back : (t : ℕ) (xs ys : List Reference) → EndToStart t (xs ++ ys) → EndToStart (lastEnd t xs) ys
 unfolding lastEnd
 join-back t [] ys j = j
 join-back t (x ∷ xs) ys j = join-back (endOf x) xs ys (j .1)
@@ -41,7 +41,7 @@ each-append P [] ys e f = f
 each-append P (x ∷ xs) ys e f = (e .0, each-append P xs ys (e .1) f)
 
 -- what a drop leaves joins as before, and each keeps its property
-pub join-drop : (n t : ℕ) (rs : List Reference) → Joined t rs → Joined (lastEnd t (take n rs)) (drop n rs)
+pub join-drop : (n t : ℕ) (rs : List Reference) → EndToStart t rs → EndToStart (lastEnd t (take n rs)) (drop n rs)
 unfolding lastEnd
 join-drop zero t rs j = j
 join-drop (suc n) t [] j = tt
@@ -65,7 +65,7 @@ references-of-run r = append-nil (referencesIn r)
 
 -- ---- references of one duration
 
-pub repeated-join : (s d n : ℕ) → Joined s (repeated s d n)
+pub repeated-join : (s d n : ℕ) → EndToStart s (repeated s d n)
 unfolding repeated
 repeated-join s d zero = tt
 repeated-join s d (suc n) = (refl, repeated-join (s + d) d n)
@@ -100,12 +100,12 @@ repeated-drop s d n k l =
 
 -- ---- references of shaped runs
 
-pub references-join : (t : ℕ) (rs : List Run) → runsShaped rs ≡ true → Starts t rs → Joined t (referencesOf rs)
+pub references-join : (t : ℕ) (rs : List Run) → runsShaped rs ≡ true → Starts t rs → EndToStart t (referencesOf rs)
 unfolding referencesOf
 references-join t [] u s = tt
 references-join t (r ∷ rs) u s =
     let l = leads r rs u in
-    subst (λ (k : ℕ). Joined k (referencesOf (r ∷ rs))) s
+    subst (λ (k : ℕ). EndToStart k (referencesOf (r ∷ rs))) s
     (join-append (r .start .0) (referencesIn r) (referencesOf rs)
     (repeated-join (r .start .0) (r .span .0) (r .count))
     (rw (repeated-end (r .start .0) (r .start .0) (r .span .0) (r .count) (l .some)) (references-join (runEnd r) rs (l .rest) (starts r rs (l .next)))))
@@ -133,12 +133,12 @@ unfolding lastEnd
 end-within t [] l w = l
 end-within t (r ∷ rs) l w = end-within (endOf r) rs (w .0 .ends) (w .1)
 
-pub ticks-taken : (t : ℕ) (rs : List Reference) → Joined t rs → Each Within rs → t + length rs ≤ lastEnd t rs
+pub ticks-taken : (t : ℕ) (rs : List Reference) → EndToStart t rs → Each Within rs → t + length rs ≤ lastEnd t rs
 unfolding lastEnd
 ticks-taken t [] j w = omega arith
 ticks-taken t (r ∷ rs) j w = omega (arith, ticks-taken (endOf r) rs (j .1) (w .1), w .0 .lasts, j .0)
 
-few : (t : ℕ) (rs : List Reference) → Joined t rs → Each Within rs → length rs ≤ largestTick
+few : (t : ℕ) (rs : List Reference) → EndToStart t rs → Each Within rs → length rs ≤ largestTick
 few t [] j w = omega arith
 few t (r ∷ rs) j w =
     omega (arith, ticks-taken (endOf r) rs (j .1) (w .1), end-within (endOf r) rs (w .0 .ends) (w .1), w .0 .lasts)
@@ -146,7 +146,7 @@ few t (r ∷ rs) j w =
 -- ---- what a shaped table keeps
 
 module _ (used : ℕ) (ws : List ℕ) (t : shaped used ws ≡ true) where
-  pub kept-join : Joined (getD ws 0 0) (keptIn used ws)
+  pub kept-join : EndToStart (getD ws 0 0) (keptIn used ws)
   unfolding runsOf
   kept-join = references-join (getD ws 0 0) (runsOf used ws) (runs-shaped used ws t) (go used)
     where

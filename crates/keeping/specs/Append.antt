@@ -1,20 +1,18 @@
 -- An append that joins gives a duration and a count: references from the next tick on. It is refused with the lowest number
 -- that applies, 6 to 9. Accepted, it counts all its references; of those kept and those new, what is not spent at the
 -- greatest clock is kept, and the rest is counted as dropped. Paper: Append and trim; Refusal numbers, 6 to 9.
-use Prim.Native.Nat.{ℕ, _+_, _*_, _≤_}
-use mathlib.Core.Path.{_≡_}
-use mathlib.Core.Bool.{true, cond}
+use Prim.Native.Nat.{ℕ, _+_, _*_}
+use mathlib.Core.Bool.{cond}
 use mathlib.Core.List.{List, _++_}
 use lib.Dec.{leb}
-use Rattle.units.specs.declared.Span.{Span}
-use Rattle.units.specs.Limits.{largestTick, spanHeld}
+use Rattle.units.specs.Limits.{largestTick}
 use Rattle.window.specs.declared.Reference.{Reference}
 use Rattle.window.specs.Place.{beforeEnd}
 use Rattle.runs.specs.Words.{repeated, capacity}
 use Rattle.runs.specs.Encoding.{runsFor}
 use Rattle.agreement.specs.declared.Record.{Record}
 use Rattle.agreement.specs.declared.refusal.Refusal.the-variants as refusal
-use Rattle.agreement.specs.Agreement.{kept, every, countsHeld, agrees}
+use Rattle.agreement.specs.Agreement.{kept, every, countsHeld}
 use Rattle.keeping.specs.declared.Outcome.{Outcome}
 use Rattle.keeping.specs.declared.Outcome.the-variants.{Accepted, Refused}
 use Rattle.keeping.specs.Keeping.{unspent, keeping}
@@ -23,12 +21,12 @@ use Rattle.keeping.specs.Keeping.{unspent, keeping}
 abbrev pub given : Record → ℕ → ℕ → List Reference
 given rec d n = repeated (rec .next .0) d n
 
--- those kept followed by those given, and what is left of them
+-- those kept followed by those given, and which of them are not spent
 abbrev pub allOf : Record → List ℕ → ℕ → ℕ → List Reference
 allOf rec ws d n = kept rec ws ++ given rec d n
 
-abbrev pub leftOf : Record → List ℕ → ℕ → ℕ → List Reference
-leftOf rec ws d n = unspent (rec .head) (rec .clock .0) (allOf rec ws d n)
+abbrev pub unspentOf : Record → List ℕ → ℕ → ℕ → List Reference
+unspentOf rec ws d n = unspent (rec .head) (rec .clock .0) (allOf rec ws d n)
 
 -- the record that has accepted them
 abbrev pub counting : Record → ℕ → ℕ → Record
@@ -42,9 +40,9 @@ counting rec d n =
       used = rec .used;
     }
 
--- 9: the references that are left need more runs than the table has
+-- 9: the references that are not spent need more runs than the table has
 unfoldable pub roomOutcome : Record → List ℕ → ℕ → ℕ → Outcome
-roomOutcome rec ws d n = cond (leb (runsFor (leftOf rec ws d n)) (capacity ws)) Accepted (Refused refusal.NoRunLeft)
+roomOutcome rec ws d n = cond (leb (runsFor (unspentOf rec ws d n)) (capacity ws)) Accepted (Refused refusal.NoRunLeft)
 
 -- 6, 7, 8: all references of the append are judged, those spent at once too
 unfoldable pub fitOutcome : Record → List ℕ → ℕ → ℕ → Outcome
@@ -57,12 +55,4 @@ fitOutcome rec ws d n =
 
 -- the record after an accepted append
 abbrev pub appended : Record → List ℕ → ℕ → ℕ → Record
-appended rec ws d n = keeping (counting rec d n) (allOf rec ws d n) (leftOf rec ws d n)
-
--- an append that is judged up to room: it joins, lasts, counts, and ends within the limits
-pub record Fitting (rec : Record) (ws : List ℕ) (span : Span) (n : ℕ) : Type 0 where
-  pub agreed : agrees rec ws ≡ true
-  pub held : spanHeld span ≡ true
-  pub some : 1 ≤ n
-  pub ends : rec .next .0 + span .0 * n ≤ largestTick
-  pub counts : countsHeld (rec .head .first .0) (rec .accepted + n) ≡ true
+appended rec ws d n = keeping (counting rec d n) (allOf rec ws d n) (unspentOf rec ws d n)

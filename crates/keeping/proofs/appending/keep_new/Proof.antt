@@ -3,9 +3,9 @@ use borrow.Author.Needs.{needs}
 use Rattle.agreement.specs.declared.refusal.Refusal.the-variants.{NoRunLeft}
 use Rattle.agreement.proofs.Agreeing.{agree-shaped}
 use Rattle.keeping.proofs.Outcomes.{answer-refused, answer-accepted, words-refused, words-accepted}
-use Rattle.keeping.proofs.Appends.{keep-asks, keep-lasts, keep-counts, keep-dropped, keep-record, gone-used, gone-room, gone-table, store-some, store-product, store-sum, store-storable, store-full, store-accepted, store-room, store-used, store-table}
-use Rattle.keeping.proofs.joined.keep_new.Statement.{statement}
-use Rattle.keeping.proofs.joined.keep_new.Tie as tie
+use Rattle.keeping.proofs.Appends.{keep-asks, keep-lasts, keep-counts, keep-dropped, keep-record, spent-used, spent-room, spent-table, store-some, store-product, store-sum, store-storable, store-full, store-accepted, store-room, store-used, store-table}
+use Rattle.keeping.proofs.appending.keep_new.Statement.{statement}
+use Rattle.keeping.proofs.appending.keep_new.Tie as tie
 
 -- the places of the way that stores
 returns-3 : tie.Need-returns-3
@@ -14,8 +14,8 @@ returns-3 c =
     let else2 = store .before .before .before .before in
     let room = else2 .before in
     let else1 = room .before .before in
-    let gone = else1 .before in
-    let ends = gone .before .before in
+    let spent = else1 .before in
+    let ends = spent .before .before in
     let start = ends .before .before in
     let rec = start .args .rec in
     let ws = start .args .table .now in
@@ -23,7 +23,7 @@ returns-3 c =
     let n = start .args .count in
     let p = ends .passed-ends .result in
     let w = ends .passed-ends .ensures in
-    let k = gone .gone-of .ensures in
+    let k = spent .count-passed-of .ensures in
     let t = room .has-room .result in
     let e = room .has-room .ensures in
     let some = else1 .if1 .left in
@@ -42,7 +42,7 @@ keep-new-spec =
     (λ c κs. search (needs, keep-lasts))
     (λ c κs. search (needs, keep-counts, keep-dropped))
     (λ c κs. search needs)
-    (λ c. (search (needs, answer-accepted, gone-room, keep-record, gone-used), search (needs, words-accepted, gone-room, gone-table)))
+    (λ c. (search (needs, answer-accepted, spent-room, keep-record, spent-used), search (needs, words-accepted, spent-room, spent-table)))
     (λ c κs. search (needs, agree-shaped))
     (λ c κs. search needs)
     (λ c. search needs)

@@ -3,8 +3,8 @@ use borrow.Author.Needs.{needs}
 use Rattle.agreement.specs.declared.refusal.Refusal.the-variants.{TickLimit, CountLimit, PastEnd}
 use Rattle.keeping.proofs.Outcomes.{answer-refused, words-refused, answer-as, words-as}
 use Rattle.keeping.proofs.Judged.{ends-asks, ends-over, counts-fit, begins-asks, counts-over, fitting, begins-past, begins-before}
-use Rattle.keeping.proofs.joined.append_joined.Statement.{statement}
-use Rattle.keeping.proofs.joined.append_joined.Tie as tie
+use Rattle.keeping.proofs.appending.append_joined.Statement.{statement}
+use Rattle.keeping.proofs.appending.append_joined.Tie as tie
 
 -- the places on the way
 counts-fits : tie.Need-add-counts-held

@@ -1,8 +1,8 @@
 -- `ends_within` meets its contract: a division that cannot wrap stands for the sum.
 use borrow.Author.Needs.{needs}
 use Rattle.keeping.proofs.Appends.{ends-within}
-use Rattle.keeping.proofs.joined.ends_within.Statement.{statement}
-use Rattle.keeping.proofs.joined.ends_within.Tie as tie
+use Rattle.keeping.proofs.appending.ends_within.Statement.{statement}
+use Rattle.keeping.proofs.appending.ends_within.Tie as tie
 
 pub ends-within-spec : {M : Type 1} → statement M
 ends-within-spec =

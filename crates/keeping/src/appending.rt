@@ -10,12 +10,13 @@ ghost use Rattle.window.specs.Place.{beforeEnd};
 ghost use Rattle.runs.specs.Encoding.{canonical};
 ghost use Rattle.runs.specs.Shape.{shaped};
 ghost use Rattle.agreement.specs.Agreement.{every, agrees};
-ghost use Rattle.keeping.specs.Keeping.{roomFor, changedBy, wordsBy};
-ghost use Rattle.keeping.specs.Joined.{Fitting, given, leftOf, roomOutcome, fitOutcome, appended};
+ghost use Rattle.keeping.specs.Keeping.{changedBy, wordsBy};
+ghost use Rattle.keeping.specs.Steps.{roomFor, Fitting};
+ghost use Rattle.keeping.specs.Append.{given, unspentOf, roomOutcome, fitOutcome, appended};
 use crate::Changed;
 use crate::accepted;
 use crate::refused;
-use crate::spent::gone_of;
+use crate::spent::count_passed_of;
 use agreement::Record;
 use agreement::Refusal;
 use agreement::counts_held;
@@ -53,16 +54,16 @@ fn has_room(table: &[u64], used: usize, span: Span) -> bool
     used < table.len() / 3
 }
 
-// Inner: the record that has accepted references, of which some are gone at once. Callers show that
+// Inner: the record that has accepted references, of which some are spent at once. Callers show that
 // the sums are within the limits.
-fn counted(rec: Record, span: Span, count: u64, gone: u64, used: usize) -> Record
-    requires { ⌜ (rec .next .0 + span .0 * count ≤ largestTick) × (rec .accepted + count ≤ 2 ^ 31) × (rec .dropped + gone ≤ 2 ^ 31) ⌝ }
-    ensures { λ r. ⌜ r ≡ record { head = rec .head; accepted = rec .accepted + count; dropped = rec .dropped + gone; next = record { 0 = rec .next .0 + span .0 * count }; clock = rec .clock; used = used } ⌝ }
+fn counted(rec: Record, span: Span, count: u64, spent: u64, used: usize) -> Record
+    requires { ⌜ (rec .next .0 + span .0 * count ≤ largestTick) × (rec .accepted + count ≤ 2 ^ 31) × (rec .dropped + spent ≤ 2 ^ 31) ⌝ }
+    ensures { λ r. ⌜ r ≡ record { head = rec .head; accepted = rec .accepted + count; dropped = rec .dropped + spent; next = record { 0 = rec .next .0 + span .0 * count }; clock = rec .clock; used = used } ⌝ }
 {
     let next = Tick(rec.next.0 + span.0 * count);
     let mut new = rec;
     new.accepted = rec.accepted + count;
-    new.dropped = rec.dropped + gone;
+    new.dropped = rec.dropped + spent;
     new.next = next;
     new.used = used;
     new
@@ -72,21 +73,21 @@ fn counted(rec: Record, span: Span, count: u64, gone: u64, used: usize) -> Recor
 fn keep_new(rec: Record, table: &mut [u64], span: Span, count: u64) -> Changed
     requires { ⌜ Fitting rec (now table) span count ⌝ }
     ensures { λ r. ⌜ r ≡ changedBy (roomOutcome rec (now (table .entry)) (span .0) count) (appended rec (now (table .entry)) (span .0) count) rec ⌝ }
-    ensures { λ _. ⌜ now (table .exit) ≡ wordsBy (roomOutcome rec (now (table .entry)) (span .0) count) (canonical (length (now (table .entry))) (leftOf rec (now (table .entry)) (span .0) count)) (now (table .entry)) ⌝ }
+    ensures { λ _. ⌜ now (table .exit) ≡ wordsBy (roomOutcome rec (now (table .entry)) (span .0) count) (canonical (length (now (table .entry))) (unspentOf rec (now (table .entry)) (span .0) count)) (now (table .entry)) ⌝ }
 {
     let passed = rec.head.passed_ends(rec.clock);
     let start = rec.next;
-    let gone = gone_of(passed, Run { start, span, count });
+    let spent = count_passed_of(passed, Run { start, span, count });
     let used = rec.used;
-    if gone == count {
-        return accepted(counted(rec, span, count, gone, used));
+    if spent == count {
+        return accepted(counted(rec, span, count, spent, used));
     }
     if !has_room(table, used, span) {
         return refused(Refusal::NoRunLeft, rec);
     }
-    let first = Tick(start.0 + span.0 * gone);
-    let left = runs::table::store(table, used, first, span, count - gone);
-    accepted(counted(rec, span, count, gone, left))
+    let first = Tick(start.0 + span.0 * spent);
+    let then = runs::table::store(table, used, first, span, count - spent);
+    accepted(counted(rec, span, count, spent, then))
 }
 
 // Inner: callers show that record and table agree and that the append lasts and counts. Judged from 6
@@ -94,7 +95,7 @@ fn keep_new(rec: Record, table: &mut [u64], span: Span, count: u64) -> Changed
 pub fn append_joined(rec: Record, table: &mut [u64], span: Span, count: u64) -> Changed
     requires { ⌜ (agrees rec (now table) ≡ true) × (spanHeld span ≡ true) × (1 ≤ count) ⌝ }
     ensures { λ r. ⌜ r ≡ changedBy (fitOutcome rec (now (table .entry)) (span .0) count) (appended rec (now (table .entry)) (span .0) count) rec ⌝ }
-    ensures { λ _. ⌜ now (table .exit) ≡ wordsBy (fitOutcome rec (now (table .entry)) (span .0) count) (canonical (length (now (table .entry))) (leftOf rec (now (table .entry)) (span .0) count)) (now (table .entry)) ⌝ }
+    ensures { λ _. ⌜ now (table .exit) ≡ wordsBy (fitOutcome rec (now (table .entry)) (span .0) count) (canonical (length (now (table .entry))) (unspentOf rec (now (table .entry)) (span .0) count)) (now (table .entry)) ⌝ }
 {
     if !ends_within(rec.next, span, count) {
         return refused(Refusal::TickLimit, rec);

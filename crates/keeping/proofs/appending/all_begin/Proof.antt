@@ -3,8 +3,8 @@ use borrow.Author.Needs.{needs}
 use native.Mathlib.Nat.{sub-le}
 use Rattle.runs.proofs.Moving.{part-fits, start-fits}
 use Rattle.keeping.proofs.Appends.{begin-asks, begin-is}
-use Rattle.keeping.proofs.joined.all_begin.Statement.{statement}
-use Rattle.keeping.proofs.joined.all_begin.Tie as tie
+use Rattle.keeping.proofs.appending.all_begin.Statement.{statement}
+use Rattle.keeping.proofs.appending.all_begin.Tie as tie
 
 pub all-begin-spec : {M : Type 1} → statement M
 all-begin-spec =
