@@ -1,3 +1,4 @@
 pub mod Agreement
 pub mod Finding
 pub mod Numbers
+pub mod Rows

@@ -19,6 +19,7 @@ use Rattle.window.specs.Window.{endOf}
 use Rattle.agreement.specs.declared.Record.{Record}
 use Rattle.agreement.specs.declared.refusal.Refusal.the-variants.{Disagreement, ClockLimit, NotKept}
 use Rattle.agreement.specs.Agreement.{agrees, kept}
+use Rattle.agreement.specs.Rows.{_unless_else_}
 use Rattle.answers.specs.declared.Numbered.{Numbered}
 use Rattle.answers.specs.declared.Numbered.the-variants.{Kept, Missing}
 use Rattle.answers.specs.declared.Availability.{Availability}
@@ -65,10 +66,11 @@ numberAvailable h c (Kept r) = cond (available h r c) at.Yes at.No
 
 abbrev pub availabilityIn : Record → List ℕ → WideNumber → Availability
 availabilityIn rec ws n =
-    cond (agrees rec ws) (numberAvailability (rec .head) (keptNumber rec ws (n .0))) (answer.Refused Disagreement)
+    answer.Refused Disagreement unless agrees rec ws else
+    numberAvailability (rec .head) (keptNumber rec ws (n .0))
 
 abbrev pub availableIn : Record → List ℕ → WideNumber → WideMillis → AvailableAt
 availableIn rec ws n c =
-    cond (agrees rec ws)
-    (cond (clockHeld c) (numberAvailable (rec .head) (c .0) (keptNumber rec ws (n .0))) (at.Refused ClockLimit))
-    (at.Refused Disagreement)
+    at.Refused Disagreement unless agrees rec ws else
+    at.Refused ClockLimit unless clockHeld c else
+    numberAvailable (rec .head) (c .0) (keptNumber rec ws (n .0))

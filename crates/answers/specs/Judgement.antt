@@ -3,7 +3,7 @@
 -- with 2, 10 or 11, one of the whole period with 2 or 19. Paper: Verdict and availability; Refusal numbers.
 use Prim.Native.Nat.{ℕ, _<_}
 use mathlib.Core.Path.{_≡_}
-use mathlib.Core.Bool.{Bool, true, false, cond}
+use mathlib.Core.Bool.{Bool, true, false}
 use mathlib.Core.List.{List}
 use lib.Dec.{eqb, leb}
 use Rattle.units.specs.declared.WideMillis.{WideMillis}
@@ -15,6 +15,7 @@ use Rattle.window.specs.Window.{Stretch, windowAt, wholePeriod, tickNeeded}
 use Rattle.agreement.specs.declared.Record.{Record}
 use Rattle.agreement.specs.declared.refusal.Refusal.the-variants.{Disagreement, ClockLimit, EarlierClock, EndUnknown}
 use Rattle.agreement.specs.Agreement.{agrees, kept}
+use Rattle.agreement.specs.Rows.{_unless_else_, _when_else_}
 use Rattle.answers.specs.declared.Verdict.{Verdict}
 use Rattle.answers.specs.declared.Verdict.the-variants.{Nothing, Complete, Lacking, Refused}
 use Rattle.answers.specs.Cover.{coveredBy}
@@ -23,24 +24,25 @@ use Rattle.answers.specs.Counts.{neededCount, coveredCount, lowestLackin
 -- by how much is needed, how much of it is covered, and the lowest tick that is not
 abbrev pub judged : ℕ → ℕ → ℕ → Verdict
 judged needed covered lowest =
-    cond (eqb needed 0) Nothing (cond (eqb covered needed) (Complete needed) (Lacking needed covered (record { 0 = lowest })))
+    Nothing when eqb needed 0 else
+    Complete needed when eqb covered needed else
+    Lacking needed covered (record { 0 = lowest })
 
 abbrev pub verdictOf : Head → Stretch → List Reference → Verdict
 verdictOf h w rs = judged (neededCount h w) (coveredCount h w rs) (lowestLacking h w rs)
 
 abbrev pub verdictAt : Record → List ℕ → WideMillis → Verdict
 verdictAt rec ws c =
-    cond (agrees rec ws)
-    (cond (clockHeld c)
-    (cond (leb (rec .clock .0) (c .0)) (verdictOf (rec .head) (windowAt (rec .head) (c .0)) (kept rec ws)) (Refused EarlierClock))
-    (Refused ClockLimit))
-    (Refused Disagreement)
+    Refused Disagreement unless agrees rec ws else
+    Refused ClockLimit unless clockHeld c else
+    Refused EarlierClock unless leb (rec .clock .0) (c .0) else
+    verdictOf (rec .head) (windowAt (rec .head) (c .0)) (kept rec ws)
 
 abbrev pub verdictWhole : Record → List ℕ → Verdict
 verdictWhole rec ws =
-    cond (agrees rec ws)
-    (cond (endKnown (rec .head)) (verdictOf (rec .head) (wholePeriod (rec .head)) (kept rec ws)) (Refused EndUnknown))
-    (Refused Disagreement)
+    Refused Disagreement unless agrees rec ws else
+    Refused EndUnknown unless endKnown (rec .head) else
+    verdictOf (rec .head) (wholePeriod (rec .head)) (kept rec ws)
 
 abbrev pub complete : Verdict → Bool
 complete Nothing = false

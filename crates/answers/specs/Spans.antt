@@ -16,6 +16,7 @@ use Rattle.agreement.specs.declared.Record.{Record}
 use Rattle.agreement.specs.declared.refusal.Refusal.{Refusal}
 use Rattle.agreement.specs.declared.refusal.Refusal.the-variants.{Disagreement, EmptySpan}
 use Rattle.agreement.specs.Agreement.{agrees}
+use Rattle.agreement.specs.Rows.{_unless_else_}
 use Rattle.answers.specs.declared.Touching.{Touching}
 use Rattle.answers.specs.declared.Touching.the-variants.{Words, Refused}
 
@@ -40,9 +41,9 @@ touchedWords a b rs =
 
 abbrev pub touchingWords : Record → List ℕ → WideTick → WideTick → Touching
 touchingWords rec ws a b =
-    cond (agrees rec ws)
-    (cond (ltb (a .0) (b .0)) (touchedWords (a .0) (b .0) (runsOf (rec .used) ws)) (Refused EmptySpan))
-    (Refused Disagreement)
+    Refused Disagreement unless agrees rec ws else
+    Refused EmptySpan unless ltb (a .0) (b .0) else
+    touchedWords (a .0) (b .0) (runsOf (rec .used) ws)
 
 -- the part of a table that an answer names
 abbrev pub partOf : Touching → List ℕ → List ℕ

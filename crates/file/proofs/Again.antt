@@ -19,7 +19,7 @@ use Rattle.runs.specs.declared.Run.{Run}
 use Rattle.runs.specs.Words.{repeated, referencesOf, capacity}
 use Rattle.runs.specs.Shape.{runsShaped}
 use Rattle.runs.specs.Ends.{lastEnd}
-use Rattle.runs.specs.Encoding.{encode, runsFor, tableOf, canonical}
+use Rattle.runs.specs.Encoding.{encode, runsFor, tableOf}
 use Rattle.runs.proofs.Opening.{referencesIn, repeated-length}
 use Rattle.runs.proofs.Encoded.{leads, shaped-front, shaped-last, Starts, encoded}
 use Rattle.runs.proofs.EndToStart.{join-back, references-append, references-of-run, references-join, references-end}
@@ -27,7 +27,7 @@ use Rattle.runs.proofs.Tables.{table-runs, table-length}
 use Rattle.agreement.specs.declared.Record.{Record}
 use Rattle.agreement.specs.Agreement.{kept, every, countsHeld, agrees}
 use Rattle.keeping.specs.declared.Outcome.the-variants as outcome
-use Rattle.keeping.specs.Keeping.{unspent}
+use Rattle.keeping.specs.Keeping.{unspent, wordsKeeping}
 use Rattle.keeping.specs.Append.{given, allOf, unspentOf, roomOutcome, fitOutcome, appended}
 use Rattle.keeping.proofs.Unspent.{unspent-every, every-append}
 use Rattle.timeline.specs.Appending.{appendOutcome}
@@ -182,6 +182,6 @@ module _ (h : Head) (t words : ℕ) (xs : List Run) (x : Run) (ys : List Run) (k
       (ap₂ (λ (m u : ℕ). counted (length (referencesOf xs) + x .count) m (lastEnd t (referencesOf xs) + x .span .0 * x .count) u) gone runs-are)
       (ap₂ (λ (n e : ℕ). counted n 0 e (length more)) count-is end-is)
 
-  pub step-words : canonical (length (tableOf words xs)) (unspentOf (recordOf h t xs) (tableOf words xs) (x .span .0) (x .count)) ≡ tableOf words (xs ++ x ∷ [])
+  pub step-words : wordsKeeping (tableOf words xs) (unspentOf (recordOf h t xs) (tableOf words xs) (x .span .0) (x .count)) ≡ tableOf words (xs ++ x ∷ [])
   unfolding rec ws more
   step-words = ap₂ (λ (n : ℕ) (rs : List Run). tableOf n rs) words-long (ap encode left-are ∙ encoded more more-shaped)

@@ -25,7 +25,7 @@ use Rattle.keeping.specs.declared.Outcome.the-variants as outcome
 use Rattle.keeping.specs.Keeping.{outcomeNumber}
 use Rattle.keeping.specs.Append.{given, unspentOf, roomOutcome, fitOutcome, appended}
 use Rattle.timeline.specs.Opening.{freshRecord, openOutcome}
-use Rattle.timeline.specs.Appending.{byStanding, appendOutcome}
+use Rattle.timeline.specs.Appending.{unjoined_else_, appendOutcome}
 use Rattle.timeline.proofs.Kept.{open-agrees}
 use Rattle.frames.specs.declared.Frame.{Frame}
 use Rattle.frames.specs.declared.Frame.the-variants.{Head as HeadFrame, S, End, Clock, Bad}
@@ -59,7 +59,7 @@ either : (b : Bool) {x y : Outcome} → Other x → Other y → Other (cond b x 
 either true p q = p
 either false p q = q
 
-joins : (st : Standing) {x : Outcome} → Other x → Other (byStanding st x)
+joins : (st : Standing) {x : Outcome} → Other x → Other (unjoined st else x)
 joins Joins p = p
 joins Gap p = other refusal.Gap refl
 joins Overlap p = other refusal.Overlap refl
@@ -80,7 +80,7 @@ module _ (rec : Record) (ws : List ℕ) (d n : ℕ) where
     appends : agrees rec ws ≡ true → Other (appendOutcome rec ws st d n)
     unfolding appendOutcome
     appends a =
-        subst⁻¹ (λ t. Other (cond t (cond (eqb d 0 || eqb n 0) (outcome.Refused refusal.NothingGiven) (byStanding st (fitOutcome rec ws d n))) (outcome.Refused refusal.Disagreement))) a
+        subst⁻¹ (λ t. Other (cond t (cond (eqb d 0 || eqb n 0) (outcome.Refused refusal.NothingGiven) (unjoined st else fitOutcome rec ws d n)) (outcome.Refused refusal.Disagreement))) a
         (either (eqb d 0 || eqb n 0) (other refusal.NothingGiven refl) (joins st fits))
 
     reaches : Other (reachOutcome rec ws st d n)

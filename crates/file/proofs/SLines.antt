@@ -20,7 +20,6 @@ use Rattle.window.specs.Limits.{Held, headOf, fieldsOf}
 use Rattle.window.specs.Place.{endKnown, beforeEnd}
 use Rattle.window.specs.Ticks.{LeastCount}
 use Rattle.window.proofs.Unsigned.{not-known, is-known}
-use Rattle.runs.specs.Encoding.{canonical}
 use Rattle.runs.proofs.Encoded.{span-limits}
 use Rattle.agreement.specs.declared.Record.{Record}
 use Rattle.agreement.specs.declared.refusal.Refusal.{Refusal}
@@ -30,10 +29,10 @@ use Rattle.agreement.proofs.Agreeing.{agreeing}
 use Rattle.keeping.specs.declared.Outcome.{Outcome}
 use Rattle.keeping.specs.declared.Outcome.the-variants as outcome
 use Rattle.keeping.specs.declared.Changed.{Changed}
-use Rattle.keeping.specs.Keeping.{changedBy, wordsBy}
+use Rattle.keeping.specs.Keeping.{wordsKeeping, changedBy, wordsBy}
 use Rattle.keeping.specs.Append.{unspentOf, fitOutcome, appended}
 use Rattle.timeline.specs.Opening.{freshRecord, zeroRecord, openOutcome, openAnswer, openTable}
-use Rattle.timeline.specs.Appending.{byStanding, appendOutcome}
+use Rattle.timeline.specs.Appending.{unjoined_else_, appendOutcome}
 use Rattle.timeline.proofs.Judged.{no-duration, stands-gap, stands-overlap, stands-joins}
 use Rattle.timeline.proofs.Kept.{open-agrees}
 use Rattle.frames.specs.declared.SFields.{SFields}
@@ -55,10 +54,10 @@ reached rec ws d n known before =
 
 reach-by : (rec : Record) (ws : List ℕ) (st k : Standing) (d n : ℕ) (z : Bool) → eqb d 0 ≡ z → st ≡ k →
     reachOutcome rec ws st d n ≡
-    cond z (outcome.Refused refusal.NothingGiven) (byStanding k (reached rec ws d n (endKnown (rec .head)) (beforeEnd (rec .head) (rec .next .0))))
+    cond z (outcome.Refused refusal.NothingGiven) (unjoined k else reached rec ws d n (endKnown (rec .head)) (beforeEnd (rec .head) (rec .next .0)))
 unfolding reachOutcome reached
 reach-by rec ws st k d n z e j =
-    ap₂ (λ b y. cond b (outcome.Refused refusal.NothingGiven) (byStanding y (reached rec ws d n (endKnown (rec .head)) (beforeEnd (rec .head) (rec .next .0))))) e j
+    ap₂ (λ b y. cond b (outcome.Refused refusal.NothingGiven) (unjoined y else reached rec ws d n (endKnown (rec .head)) (beforeEnd (rec .head) (rec .next .0)))) e j
 
 module _ (r : Reading) (ws : List ℕ) (span : Span) (h : Running r ws × (spanHeld span ≡ true)) where
   least : ℕ
@@ -80,7 +79,7 @@ module _ (r : Reading) (ws : List ℕ) (span : Span) (h : Running r ws × (spanH
   reach-refused why e x k =
       refused-by r ws why x k (reachesBy r ws Joins (span .0))
       (refused-is (reachOutcome (r .rec) ws Joins (span .0) least) why Filled r (appended (r .rec) ws (span .0) least)
-      (canonical (length ws) (unspentOf (r .rec) ws (span .0) least)) ws e)
+      (wordsKeeping ws (unspentOf (r .rec) ws (span .0) least)) ws e)
 
   pub reach-unknown : r .rec .head .duration .0 ≡ 0 → (x : Reading) → x ≡ record { stage = Refused refusal.NoEndToReach; lines = r .lines; rec = r .rec } →
       _≡_ {A = File} (record { reading = x; words = ws }) (reachesBy r ws Joins (span .0))
@@ -113,7 +112,7 @@ module _ (r : Reading) (ws : List ℕ) (span : Span) (h : Running r ws × (spanH
           joined-asks = (h .0 .agreed, h .1, l .some)
 
           pub reach-appended : (c : Changed) → c ≡ changedBy (fitOutcome (r .rec) ws (span .0) n) (appended (r .rec) ws (span .0) n) (r .rec) →
-              (vs : List ℕ) → vs ≡ wordsBy (fitOutcome (r .rec) ws (span .0) n) (canonical (length ws) (unspentOf (r .rec) ws (span .0) n)) ws →
+              (vs : List ℕ) → vs ≡ wordsBy (fitOutcome (r .rec) ws (span .0) n) (wordsKeeping ws (unspentOf (r .rec) ws (span .0) n)) ws →
               (x : Reading) → x ≡ settledReading (c .outcome) Filled r (c .rec) →
               _≡_ {A = File} (record { reading = x; words = vs }) (reachesBy r ws Joins (span .0))
           unfolding reachesBy least reached
@@ -137,11 +136,11 @@ module _ (r : Reading) (ws : List ℕ) (st : Standing) (s : SFields) (h : Runnin
           cond t (appendedBy (appendOutcome (r .rec) ws st (s .d) (s .r + 1)) Open r ws (s .d) (s .r + 1)) (reachesBy r ws st (s .d))
       go true =
           refused-is (appendOutcome (r .rec) ws st (s .d) (s .r + 1)) why Open r (appended (r .rec) ws (s .d) (s .r + 1))
-          (canonical (length ws) (unspentOf (r .rec) ws (s .d) (s .r + 1))) ws (a (s .r + 1) (λ z. let f : ⊥ = omega arith in f))
+          (wordsKeeping ws (unspentOf (r .rec) ws (s .d) (s .r + 1))) ws (a (s .r + 1) (λ z. let f : ⊥ = omega arith in f))
       go false =
           let n = leastCount (r .rec .head) (r .rec .next .0) (s .d) in
           refused-is (reachOutcome (r .rec) ws st (s .d) n) why Filled r (appended (r .rec) ws (s .d) n)
-          (canonical (length ws) (unspentOf (r .rec) ws (s .d) n)) ws (b n)
+          (wordsKeeping ws (unspentOf (r .rec) ws (s .d) n)) ws (b n)
 
   -- the answer of the constructor decides first
   module _ (m : SpanMade) (made : m ≡ spanMade (s .d)) where
@@ -199,7 +198,7 @@ module _ (r : Reading) (ws : List ℕ) (st : Standing) (s : SFields) (h : Runnin
           s-lines = few-lines r ws sp s-held
 
           pub s-appended : (c : Changed) → c ≡ changedBy (fitOutcome (r .rec) ws (sp .0) (s .r + 1)) (appended (r .rec) ws (sp .0) (s .r + 1)) (r .rec) →
-              (vs : List ℕ) → vs ≡ wordsBy (fitOutcome (r .rec) ws (sp .0) (s .r + 1)) (canonical (length ws) (unspentOf (r .rec) ws (sp .0) (s .r + 1))) ws →
+              (vs : List ℕ) → vs ≡ wordsBy (fitOutcome (r .rec) ws (sp .0) (s .r + 1)) (wordsKeeping ws (unspentOf (r .rec) ws (sp .0) (s .r + 1))) ws →
               (x : Reading) → x ≡ settledReading (c .outcome) Open r (c .rec) →
               _≡_ {A = File} (record { reading = x; words = vs }) (takeS r ws st s)
           s-appended c k vs v x j =
@@ -209,7 +208,7 @@ module _ (r : Reading) (ws : List ℕ) (st : Standing) (s : SFields) (h : Runnin
               c
               (k ∙ ap (λ (y : Span). changedBy (fitOutcome (r .rec) ws (y .0) (s .r + 1)) (appended (r .rec) ws (y .0) (s .r + 1)) (r .rec)) is)
               vs
-              (v ∙ ap (λ (y : Span). wordsBy (fitOutcome (r .rec) ws (y .0) (s .r + 1)) (canonical (length ws) (unspentOf (r .rec) ws (y .0) (s .r + 1))) ws) is)
+              (v ∙ ap (λ (y : Span). wordsBy (fitOutcome (r .rec) ws (y .0) (s .r + 1)) (wordsKeeping ws (unspentOf (r .rec) ws (y .0) (s .r + 1))) ws) is)
               x
               j ∙
               by-sign true (lt-ltb (s .r) firstNegative n)

@@ -26,7 +26,7 @@ use Rattle.keeping.specs.Keeping.{wordsBy}
 use Rattle.keeping.specs.Append.{unspentOf, fitOutcome, appended}
 use Rattle.keeping.proofs.Outcomes.{refused-not}
 use Rattle.timeline.specs.Opening.{freshRecord, openOutcome}
-use Rattle.timeline.specs.Appending.{byStanding, appendOutcome}
+use Rattle.timeline.specs.Appending.{unjoined_else_, appendOutcome}
 use Rattle.timeline.proofs.Judged.{stands-joins}
 use Rattle.timeline.proofs.Kept.{open-agrees, taken, accepted-keeps}
 use Rattle.frames.specs.declared.Frame.{Frame}
@@ -104,7 +104,7 @@ reach-accepted rec ws st d n a l o = go (eqb d 0) refl st refl (endKnown (rec .h
 
     go : (t : Bool) → eqb d 0 ≡ t → (k : Standing) → st ≡ k → (u : Bool) → endKnown (rec .head) ≡ u → (v : Bool) → beforeEnd (rec .head) (rec .next .0) ≡ v →
         cond t (outcome.Refused refusal.NothingGiven)
-        (byStanding k (cond u (cond v (fitOutcome rec ws d n) (outcome.Refused refusal.PastEnd)) (outcome.Refused refusal.NoEndToReach))) ≡
+        (unjoined k else cond u (cond v (fitOutcome rec ws d n) (outcome.Refused refusal.PastEnd)) (outcome.Refused refusal.NoEndToReach)) ≡
         outcome.Accepted →
         appendOutcome rec ws st d n ≡ outcome.Accepted
     go true e k j u p v q o = absurd (refused-not refusal.NothingGiven o)

@@ -27,7 +27,7 @@ use Rattle.agreement.specs.declared.refusal.Refusal.the-variants.{BadLine}
 use Rattle.agreement.specs.Agreement.{kept, every, agrees}
 use Rattle.agreement.proofs.Agreeing.{Agreeing, agreeing}
 use Rattle.keeping.specs.declared.Outcome.the-variants as outcome
-use Rattle.keeping.specs.Keeping.{wordsBy}
+use Rattle.keeping.specs.Keeping.{wordsKeeping, wordsBy}
 use Rattle.keeping.proofs.Outcomes.{refused-not}
 use Rattle.frames.specs.Fields.{allOnes}
 use Rattle.frames.specs.declared.Frame.{Frame}
@@ -201,7 +201,7 @@ module _ (rec : Record) (ws : List ℕ) (a : agrees rec ws ≡ true) (came : Lis
         ap₂ answeredBy ends (ap (λ (y : File). y .reading) lines-are) ∙
         ap (λ (y : Record). record { outcome = outcome.Accepted; rec = y; line = 0 }) record-is
 
-    table-is : readTable (fileFor rec ws) came ≡ canonical (length came) (kept rec ws)
+    table-is : readTable (fileFor rec ws) came ≡ wordsKeeping came (kept rec ws)
     unfolding readTable wordsBy come
     table-is =
         ap₂ (λ o vs. wordsBy o vs (zeroed came)) ends (ap (λ (y : File). y .words) lines-are) ∙
@@ -210,12 +210,12 @@ module _ (rec : Record) (ws : List ℕ) (a : agrees rec ws ≡ true) (came : Lis
   module _ (some : rec .used ≡ 0 → ⊥) where
     -- a file that we write reads back: the same references under the same numbers, in a table with room for their runs
     pub read-back : (readAnswer (fileFor rec ws) came ≡ record { outcome = outcome.Accepted; rec = readBack rec ws; line = 0 }) ×
-        (readTable (fileFor rec ws) came ≡ canonical (length came) (kept rec ws))
+        (readTable (fileFor rec ws) came ≡ wordsKeeping came (kept rec ws))
     read-back = go (runsOf (rec .used) ws) refl
       where
         go : (rs : List Run) → runsOf (rec .used) ws ≡ rs →
             (readAnswer (fileFor rec ws) came ≡ record { outcome = outcome.Accepted; rec = readBack rec ws; line = 0 }) ×
-            (readTable (fileFor rec ws) came ≡ canonical (length came) (kept rec ws))
+            (readTable (fileFor rec ws) came ≡ wordsKeeping came (kept rec ws))
         go [] e = absurd (some (sym (runs-length (rec .used) ws) ∙ ap length e))
         go (x ∷ ys) e = (answer-is x ys e, table-is x ys e)
 

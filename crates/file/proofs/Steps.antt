@@ -4,7 +4,6 @@ use mathlib.Core.Bool.{Bool, true, false, cond}
 use mathlib.Core.List.{List}
 use Prim.Native.Nat.{ℕ, _+_, _-_}
 use borrow.Author.Tests.{eq-eqb, ne-eqb}
-use lib.ListN.{length}
 use Rattle.units.specs.declared.Tick.{Tick}
 use Rattle.units.specs.declared.WideTick.{WideTick}
 use Rattle.units.specs.declared.standing.Standing.{Standing}
@@ -16,14 +15,13 @@ use Rattle.window.specs.declared.HeadMade.{HeadMade}
 use Rattle.window.specs.declared.HeadMade.the-variants as head
 use Rattle.window.specs.Limits.{headHeld, headOf, headMade}
 use Rattle.window.proofs.Making.{heads}
-use Rattle.runs.specs.Encoding.{canonical}
 use Rattle.agreement.specs.declared.Record.{Record}
 use Rattle.agreement.specs.declared.refusal.Refusal.{Refusal}
 use Rattle.agreement.specs.declared.refusal.Refusal.the-variants as refusal
 use Rattle.keeping.specs.declared.Outcome.{Outcome}
 use Rattle.keeping.specs.declared.Outcome.the-variants as outcome
 use Rattle.keeping.specs.declared.Changed.{Changed}
-use Rattle.keeping.specs.Keeping.{changedBy, wordsBy}
+use Rattle.keeping.specs.Keeping.{wordsKeeping, changedBy, wordsBy}
 use Rattle.keeping.specs.Append.{unspentOf, appended}
 use Rattle.timeline.specs.Opening.{freshRecord, zeroRecord}
 use Rattle.frames.specs.Fields.{allOnes}
@@ -81,11 +79,11 @@ module _ (r : Reading) (ws : List ℕ) (why : Refusal) (x : Reading) (k : x ≡ 
 -- what was appended, by the outcome of the append
 pub appended-by : (o other : Outcome) (s : Stage) (r : Reading) (ws : List ℕ) (d n m : ℕ) → o ≡ other → n ≡ m →
     (c : Changed) → c ≡ changedBy other (appended (r .rec) ws d n) (r .rec) →
-    (vs : List ℕ) → vs ≡ wordsBy other (canonical (length ws) (unspentOf (r .rec) ws d n)) ws →
+    (vs : List ℕ) → vs ≡ wordsBy other (wordsKeeping ws (unspentOf (r .rec) ws d n)) ws →
     (x : Reading) → x ≡ settledReading (c .outcome) s r (c .rec) →
     _≡_ {A = File} (record { reading = x; words = vs }) (appendedBy o s r ws d m)
 appended-by o other s r ws d n m e l c k vs v x j =
-    both x (settledReading other s r (appended (r .rec) ws d n)) vs (wordsBy other (canonical (length ws) (unspentOf (r .rec) ws d n)) ws)
+    both x (settledReading other s r (appended (r .rec) ws d n)) vs (wordsBy other (wordsKeeping ws (unspentOf (r .rec) ws d n)) ws)
     (j ∙ settles other s r (appended (r .rec) ws d n) (r .rec) c k) v ∙
     ap₂ (λ y i. appendedBy y s r ws d i) (sym e) l
 

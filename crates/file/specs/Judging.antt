@@ -15,16 +15,16 @@ use Rattle.units.specs.Standing.{tickStanding}
 use Rattle.window.specs.declared.Head.{Head}
 use Rattle.window.specs.Limits.{headHeld, headOf}
 use Rattle.window.specs.Place.{endKnown, beforeEnd}
-use Rattle.runs.specs.Encoding.{canonical}
 use Rattle.agreement.specs.declared.Record.{Record}
 use Rattle.agreement.specs.declared.refusal.Refusal.{Refusal}
 use Rattle.agreement.specs.declared.refusal.Refusal.the-variants.{OverLimit, NothingGiven, PastEnd, BadLine, BadOrder, NoEndToReach}
+use Rattle.agreement.specs.Rows.{_unless_else_, _when_else_}
 use Rattle.keeping.specs.declared.Outcome.{Outcome}
 use Rattle.keeping.specs.declared.Outcome.the-variants as outcome
-use Rattle.keeping.specs.Keeping.{wordsBy}
+use Rattle.keeping.specs.Keeping.{wordsKeeping, wordsBy}
 use Rattle.keeping.specs.Append.{unspentOf, fitOutcome, appended}
 use Rattle.timeline.specs.Opening.{freshRecord, zeroRecord, openOutcome}
-use Rattle.timeline.specs.Appending.{byStanding, appendOutcome}
+use Rattle.timeline.specs.Appending.{unjoined_else_, appendOutcome}
 use Rattle.frames.specs.declared.Frame.{Frame}
 use Rattle.frames.specs.declared.Frame.the-variants.{Head as HeadFrame, S, End, Clock, Bad}
 use Rattle.frames.specs.declared.SFields.{SFields}
@@ -87,15 +87,15 @@ firstNegative = 2 ^ 31
 -- a negative r, with the least count n: 3, 4 or 5, 18, 8, then 6, 7, 9
 unfoldable pub reachOutcome : Record → List ℕ → Standing → ℕ → ℕ → Outcome
 reachOutcome rec ws st d n =
-    cond (eqb d 0) (outcome.Refused NothingGiven)
-    (byStanding st
-    (cond (endKnown (rec .head))
-    (cond (beforeEnd (rec .head) (rec .next .0)) (fitOutcome rec ws d n) (outcome.Refused PastEnd))
-    (outcome.Refused NoEndToReach)))
+    outcome.Refused NothingGiven when eqb d 0 else
+    unjoined st else
+    outcome.Refused NoEndToReach unless endKnown (rec .head) else
+    outcome.Refused PastEnd unless beforeEnd (rec .head) (rec .next .0) else
+    fitOutcome rec ws d n
 
 -- n references of d ticks are appended, if the outcome is so
 abbrev pub appendedBy : Outcome → Stage → Reading → List ℕ → ℕ → ℕ → File
-appendedBy o s r ws d n = settled o s r (appended (r .rec) ws d n) (canonical (length ws) (unspentOf (r .rec) ws d n)) ws
+appendedBy o s r ws d n = settled o s r (appended (r .rec) ws d n) (wordsKeeping ws (unspentOf (r .rec) ws d n)) ws
 
 -- a negative r is as many references as reach the period end
 unfoldable pub reachesBy : Reading → List ℕ → Standing → ℕ → File
@@ -125,7 +125,9 @@ takeLaterS r ws s = takeS r ws (laterStanding (s .t) (r .rec .next)) s
 -- ---- the head and the end
 
 unfoldable pub takeHead : Reading → List ℕ → Head → File
-takeHead r ws h = cond (headHeld h) (taken Headed r (freshRecord h (record { 0 = 0 })) ws) (refused OverLimit r ws)
+takeHead r ws h =
+    refused OverLimit r ws unless headHeld h else
+    taken Headed r (freshRecord h (record { 0 = 0 })) ws
 
 -- the S lines are all lines taken but the head
 abbrev pub sLines : Reading → ℕ
@@ -133,7 +135,9 @@ sLines r = r .lines - 1
 
 -- the end's number is that of the S lines
 unfoldable pub takeEnd : Reading → List ℕ → ℕ → File
-takeEnd r ws n = cond (eqb n (sLines r)) (taken Ended r (r .rec) ws) (refused BadOrder r ws)
+takeEnd r ws n =
+    refused BadOrder r ws unless eqb n (sLines r) else
+    taken Ended r (r .rec) ws
 
 -- ---- which frames may stand where
 
@@ -195,7 +199,7 @@ stopOutcome Nothing n = outcome.Refused BadLine
 stopOutcome Headed n = outcome.Refused BadLine
 stopOutcome Open n = outcome.Refused BadLine
 stopOutcome Filled n = outcome.Refused BadLine
-stopOutcome Ended n = cond (eqb n 0) outcome.Accepted (outcome.Refused BadLine)
+stopOutcome Ended n = outcome.Refused BadLine unless eqb n 0 else outcome.Accepted
 stopOutcome (Refused why) n = outcome.Refused why
 
 unfoldable pub readOutcome : List ℕ → List ℕ → Outcome

@@ -2,7 +2,6 @@
 -- number of S lines. It is refused where record and table disagree, where no run is kept, and where the output is shorter than the whole file: then
 -- no byte changes. Paper: The file; Refusal numbers, 2, 12 and 15.
 use Prim.Native.Nat.{ℕ, _+_, _-_}
-use mathlib.Core.Bool.{cond}
 use mathlib.Core.List.{List, [], _∷_, _++_}
 use lib.Dec.{eqb, leb}
 use lib.ListN.{length, drop}
@@ -14,6 +13,7 @@ use Rattle.runs.specs.Encoding.{encode, runsFor}
 use Rattle.agreement.specs.declared.Record.{Record}
 use Rattle.agreement.specs.declared.refusal.Refusal.the-variants.{Disagreement, NothingKept, ShortOutput}
 use Rattle.agreement.specs.Agreement.{kept, agrees}
+use Rattle.agreement.specs.Rows.{_unless_else_, _when_else_}
 use Rattle.agreement.specs.Numbers.{refusalNumber}
 use Rattle.frames.specs.declared.Frame.{Frame}
 use Rattle.frames.specs.declared.Frame.the-variants.{Head as HeadFrame, S, End}
@@ -57,10 +57,10 @@ fileFor rec ws = fileOf (keptHead rec) (kept rec ws)
 
 unfoldable pub writeAnswer : Record → List ℕ → ℕ → WriteAnswer
 writeAnswer rec ws room =
-    cond (agrees rec ws)
-    (cond (eqb (rec .used) 0) (Refused NothingKept)
-    (cond (leb (length (fileFor rec ws)) room) (Written (length (fileFor rec ws))) (Refused ShortOutput)))
-    (Refused Disagreement)
+    Refused Disagreement unless agrees rec ws else
+    Refused NothingKept when eqb (rec .used) 0 else
+    Refused ShortOutput unless leb (length (fileFor rec ws)) room else
+    Written (length (fileFor rec ws))
 
 -- the paper's number of an answer, 0 where the file is written
 abbrev pub writeNumber : WriteAnswer → ℕ

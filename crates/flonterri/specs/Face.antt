@@ -3,7 +3,6 @@
 -- leave all memory as it came. Behind the lengths each call is the one that Rattle code makes, for the record that the words mean. In what follows
 -- ws are the record's words as they came, ts the table's. Paper: Refusal numbers.
 use Prim.Native.Nat.{ℕ}
-use mathlib.Core.Bool.{cond}
 use mathlib.Core.List.{List, [], _∷_}
 use lib.Dec.{eqb}
 use lib.ListN.{length}
@@ -12,6 +11,7 @@ use Rattle.units.specs.declared.standing.Standing.{Standing}
 use Rattle.units.specs.Standing.{tickStanding, stampStanding}
 use Rattle.agreement.specs.declared.refusal.Refusal.the-variants.{Disagreement, ShortOutput}
 use Rattle.agreement.specs.Numbers.{refusalNumber}
+use Rattle.agreement.specs.Rows.{_unless_else_}
 use Rattle.keeping.specs.declared.Changed.{Changed}
 use Rattle.keeping.specs.Keeping.{outcomeNumber}
 use Rattle.timeline.specs.Opening.{openAnswer, openTable}
@@ -31,15 +31,18 @@ use Rattle.flonterri.specs.Tells.{Tells, verdictTells, availabilityTells
 
 -- the number by the record's length, 0 where it is right
 unfoldable pub wrongRecord : ℕ → ℕ
-wrongRecord words = cond (eqb words recordWords) 0 (refusalNumber Disagreement)
+wrongRecord words = refusalNumber Disagreement unless eqb words recordWords else 0
 
 -- the same, and then by the length of out, which must be size
 unfoldable pub wrongLength : ℕ → ℕ → ℕ → ℕ
-wrongLength words out size = cond (eqb words recordWords) (cond (eqb out size) 0 (refusalNumber ShortOutput)) (refusalNumber Disagreement)
+wrongLength words out size =
+    refusalNumber Disagreement unless eqb words recordWords else
+    refusalNumber ShortOutput unless eqb out size else
+    0
 
 -- by that number: 0 and the call comes to what stands behind, else all is as it came
 unfoldable pub guarded : {A : Type 0} → ℕ → (ℕ → A) → A → A
-guarded wrong came call = cond (eqb wrong 0) call (came wrong)
+guarded wrong came call = came wrong unless eqb wrong 0 else call
 
 -- ---- the calls that change
 

@@ -7,7 +7,7 @@ use native.Mathlib.Nat.{mul-le-mul-left, sub-le}
 use native.Mathlib.Omega.{arith}
 use borrow.Author.Tests.{leb-true, le-leb}
 use lib.Dec.{leb}
-use lib.ListN.{length, drop}
+use lib.ListN.{drop}
 use mir.Syntax.{w64}
 use mir.Val.{Fits}
 use Rattle.units.specs.declared.Span.{Span}
@@ -19,7 +19,7 @@ use Rattle.window.specs.Limits.{Held}
 use Rattle.window.specs.Place.{beforeEnd}
 use Rattle.window.specs.Ticks.{EndsPassed}
 use Rattle.runs.specs.Words.{repeated, capacity}
-use Rattle.runs.specs.Encoding.{runsFor, canonical}
+use Rattle.runs.specs.Encoding.{runsFor}
 use Rattle.runs.specs.Steps.{keptWith, Storable}
 use Rattle.runs.proofs.Opening.{repeated-length}
 use Rattle.runs.proofs.Encoded.{span-limits, ref}
@@ -33,7 +33,7 @@ use Rattle.agreement.proofs.Scanning.{last-repeated}
 use Rattle.agreement.proofs.Judging.{all-begun, begun}
 use Rattle.agreement.proofs.Agreeing.{Agreeing, agreeing}
 use Rattle.keeping.specs.declared.Outcome.the-variants.{Accepted, Refused}
-use Rattle.keeping.specs.Keeping.{unspent}
+use Rattle.keeping.specs.Keeping.{unspent, wordsKeeping}
 use Rattle.keeping.specs.Steps.{countPassed, roomFor, Fitting}
 use Rattle.keeping.specs.Append.{given, unspentOf, roomOutcome, appended}
 use Rattle.keeping.proofs.Unspent.{count-most, unspent-is}
@@ -119,8 +119,8 @@ module _ (rec : Record) (ws : List ℕ) (span : Span) (n : ℕ) (fit : Fitting r
           ap (λ (m : ℕ). cond (leb m (capacity ws)) Accepted (Refused refusal.NoRunLeft)) (sym spent-used) ∙
           ap (λ t. cond t Accepted (Refused refusal.NoRunLeft)) (le-leb (rec .used) (capacity ws) (used-fits (rec .used) ws (facts .table)))
 
-      pub spent-table : ws ≡ canonical (length ws) (unspentOf rec ws (span .0) n)
-      spent-table = canonical-is (rec .used) ws (facts .table) ∙ ap (canonical (length ws)) (sym left-kept)
+      pub spent-table : ws ≡ wordsKeeping ws (unspentOf rec ws (span .0) n)
+      spent-table = canonical-is (rec .used) ws (facts .table) ∙ ap (wordsKeeping ws) (sym left-kept)
 
     -- ---- some are stored
 
@@ -165,5 +165,5 @@ module _ (rec : Record) (ws : List ℕ) (span : Span) (n : ℕ) (fit : Fitting r
           pub store-used : (used : ℕ) → used ≡ runsFor (keptWith (rec .used) ws (record { 0 = rec .next .0 + span .0 * spent }) span (n - spent)) → used ≡ runsFor (unspentOf rec ws (span .0) n)
           store-used used u = u ∙ ap runsFor with-left
 
-          pub store-table : (vs : List ℕ) → vs ≡ canonical (length ws) (keptWith (rec .used) ws (record { 0 = rec .next .0 + span .0 * spent }) span (n - spent)) → vs ≡ canonical (length ws) (unspentOf rec ws (span .0) n)
-          store-table vs v = v ∙ ap (canonical (length ws)) with-left
+          pub store-table : (vs : List ℕ) → vs ≡ wordsKeeping ws (keptWith (rec .used) ws (record { 0 = rec .next .0 + span .0 * spent }) span (n - spent)) → vs ≡ wordsKeeping ws (unspentOf rec ws (span .0) n)
+          store-table vs v = v ∙ ap (wordsKeeping ws) with-left

@@ -25,7 +25,7 @@ use Rattle.agreement.proofs.Judging.{record-facts, record-held}
 use Rattle.agreement.proofs.Agreeing.{Agreeing, agreeing, agrees-from}
 use Rattle.keeping.specs.Append.{given, allOf, unspentOf, counting, appended}
 use Rattle.keeping.specs.Steps.{Fitting}
-use Rattle.keeping.specs.Keeping.{unspent, keeping}
+use Rattle.keeping.specs.Keeping.{unspent, keeping, wordsKeeping}
 use Rattle.keeping.proofs.Unspent.{unspent-few, unspent-suffix, unspent-coming, unspent-still, every-append}
 
 -- ---- where the last ends
@@ -155,7 +155,7 @@ module _ (rec : Record) (ws : List ℕ) (span : Span) (n : ℕ) (fit : Fitting r
         repeated-length (rec .next .0) (span .0) n,
       )
 
-  pub append-keeps : runsFor (unspentOf rec ws (span .0) n) ≤ capacity ws → agrees (appended rec ws (span .0) n) (canonical (length ws) (unspentOf rec ws (span .0) n)) ≡ true
+  pub append-keeps : runsFor (unspentOf rec ws (span .0) n) ≤ capacity ws → agrees (appended rec ws (span .0) n) (wordsKeeping ws (unspentOf rec ws (span .0) n)) ≡ true
   append-keeps room =
       step-agrees (counting rec (span .0) n) (length ws) (all-joined .0) (allOf rec ws (span .0) n) (all-joined .1) all-within all-ends all-begun all-total
       new-held room

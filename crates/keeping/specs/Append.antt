@@ -2,7 +2,6 @@
 -- that applies, 6 to 9. Accepted, it counts all its references; of those kept and those new, what is not spent at the
 -- greatest clock is kept, and the rest is counted as dropped. Paper: Append and trim; Refusal numbers, 6 to 9.
 use Prim.Native.Nat.{ℕ, _+_, _*_}
-use mathlib.Core.Bool.{cond}
 use mathlib.Core.List.{List, _++_}
 use lib.Dec.{leb}
 use Rattle.units.specs.Limits.{largestTick}
@@ -11,8 +10,9 @@ use Rattle.window.specs.Place.{beforeEnd}
 use Rattle.runs.specs.Words.{repeated, capacity}
 use Rattle.runs.specs.Encoding.{runsFor}
 use Rattle.agreement.specs.declared.Record.{Record}
-use Rattle.agreement.specs.declared.refusal.Refusal.the-variants as refusal
+use Rattle.agreement.specs.declared.refusal.Refusal.the-variants.{TickLimit, CountLimit, PastEnd, NoRunLeft}
 use Rattle.agreement.specs.Agreement.{kept, every, countsHeld}
+use Rattle.agreement.specs.Rows.{_unless_else_}
 use Rattle.keeping.specs.declared.Outcome.{Outcome}
 use Rattle.keeping.specs.declared.Outcome.the-variants.{Accepted, Refused}
 use Rattle.keeping.specs.Keeping.{unspent, keeping}
@@ -42,16 +42,15 @@ counting rec d n =
 
 -- 9: the references that are not spent need more runs than the table has
 unfoldable pub roomOutcome : Record → List ℕ → ℕ → ℕ → Outcome
-roomOutcome rec ws d n = cond (leb (runsFor (unspentOf rec ws d n)) (capacity ws)) Accepted (Refused refusal.NoRunLeft)
+roomOutcome rec ws d n = Refused NoRunLeft unless leb (runsFor (unspentOf rec ws d n)) (capacity ws) else Accepted
 
 -- 6, 7, 8: all references of the append are judged, those spent at once too
 unfoldable pub fitOutcome : Record → List ℕ → ℕ → ℕ → Outcome
 fitOutcome rec ws d n =
-    cond (leb (rec .next .0 + d * n) largestTick)
-    (cond (countsHeld (rec .head .first .0) (rec .accepted + n))
-    (cond (every (λ r. beforeEnd (rec .head) (r .start .0)) (given rec d n)) (roomOutcome rec ws d n) (Refused refusal.PastEnd))
-    (Refused refusal.CountLimit))
-    (Refused refusal.TickLimit)
+    Refused TickLimit unless leb (rec .next .0 + d * n) largestTick else
+    Refused CountLimit unless countsHeld (rec .head .first .0) (rec .accepted + n) else
+    Refused PastEnd unless every (λ r. beforeEnd (rec .head) (r .start .0)) (given rec d n) else
+    roomOutcome rec ws d n
 
 -- the record after an accepted append
 abbrev pub appended : Record → List ℕ → ℕ → ℕ → Record

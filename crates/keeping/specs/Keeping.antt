@@ -7,7 +7,7 @@ use lib.ListN.{length}
 use Rattle.window.specs.declared.Head.{Head}
 use Rattle.window.specs.declared.Reference.{Reference}
 use Rattle.window.specs.Window.{endOf, passed}
-use Rattle.runs.specs.Encoding.{runsFor}
+use Rattle.runs.specs.Encoding.{canonical, runsFor}
 use Rattle.agreement.specs.declared.Record.{Record}
 use Rattle.keeping.specs.declared.Outcome.{Outcome}
 use Rattle.keeping.specs.declared.Outcome.the-variants.{Accepted, Refused}
@@ -31,6 +31,10 @@ keeping rec all stay =
       clock = rec .clock;
       used = runsFor stay;
     }
+
+-- and the table of as many words that keeps just them
+abbrev pub wordsKeeping : List ℕ → List Reference → List ℕ
+wordsKeeping ws stay = canonical (length ws) stay
 
 -- the paper's number of an outcome, 0 where the call is accepted
 abbrev pub outcomeNumber : Outcome → ℕ

@@ -3,14 +3,12 @@ ghost use mathlib.Core.Path.{_≡_};
 ghost use mathlib.Core.Bool.{true};
 ghost use Prim.Native.Nat.{_+_, _*_, _^_, _≤_};
 ghost use lib.Dec.{leb};
-ghost use lib.ListN.{length};
 ghost use Rattle.units.specs.Limits.{largestTick, spanHeld};
 ghost use Rattle.window.specs.Limits.{Held};
 ghost use Rattle.window.specs.Place.{beforeEnd};
-ghost use Rattle.runs.specs.Encoding.{canonical};
 ghost use Rattle.runs.specs.Shape.{shaped};
 ghost use Rattle.agreement.specs.Agreement.{every, agrees};
-ghost use Rattle.keeping.specs.Keeping.{changedBy, wordsBy};
+ghost use Rattle.keeping.specs.Keeping.{wordsKeeping, changedBy, wordsBy};
 ghost use Rattle.keeping.specs.Steps.{roomFor, Fitting};
 ghost use Rattle.keeping.specs.Append.{given, unspentOf, roomOutcome, fitOutcome, appended};
 use crate::Changed;
@@ -73,7 +71,7 @@ fn counted(rec: Record, span: Span, count: u64, spent: u64, used: usize) -> Reco
 fn keep_new(rec: Record, table: &mut [u64], span: Span, count: u64) -> Changed
     requires { ⌜ Fitting rec (now table) span count ⌝ }
     ensures { λ r. ⌜ r ≡ changedBy (roomOutcome rec (now (table .entry)) (span .0) count) (appended rec (now (table .entry)) (span .0) count) rec ⌝ }
-    ensures { λ _. ⌜ now (table .exit) ≡ wordsBy (roomOutcome rec (now (table .entry)) (span .0) count) (canonical (length (now (table .entry))) (unspentOf rec (now (table .entry)) (span .0) count)) (now (table .entry)) ⌝ }
+    ensures { λ _. ⌜ now (table .exit) ≡ wordsBy (roomOutcome rec (now (table .entry)) (span .0) count) (wordsKeeping (now (table .entry)) (unspentOf rec (now (table .entry)) (span .0) count)) (now (table .entry)) ⌝ }
 {
     let passed = rec.head.passed_ends(rec.clock);
     let start = rec.next;
@@ -95,7 +93,7 @@ fn keep_new(rec: Record, table: &mut [u64], span: Span, count: u64) -> Changed
 pub fn append_joined(rec: Record, table: &mut [u64], span: Span, count: u64) -> Changed
     requires { ⌜ (agrees rec (now table) ≡ true) × (spanHeld span ≡ true) × (1 ≤ count) ⌝ }
     ensures { λ r. ⌜ r ≡ changedBy (fitOutcome rec (now (table .entry)) (span .0) count) (appended rec (now (table .entry)) (span .0) count) rec ⌝ }
-    ensures { λ _. ⌜ now (table .exit) ≡ wordsBy (fitOutcome rec (now (table .entry)) (span .0) count) (canonical (length (now (table .entry))) (unspentOf rec (now (table .entry)) (span .0) count)) (now (table .entry)) ⌝ }
+    ensures { λ _. ⌜ now (table .exit) ≡ wordsBy (fitOutcome rec (now (table .entry)) (span .0) count) (wordsKeeping (now (table .entry)) (unspentOf rec (now (table .entry)) (span .0) count)) (now (table .entry)) ⌝ }
 {
     if !ends_within(rec.next, span, count) {
         return refused(Refusal::TickLimit, rec);

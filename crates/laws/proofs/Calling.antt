@@ -5,23 +5,21 @@ use mathlib.Core.Bool.{false, cond, _||_}
 use mathlib.Core.List.{List, [], _∷_, _++_}
 use Prim.Native.Nat.{ℕ}
 use lib.Dec.{eqb}
-use lib.ListN.{length}
 use Rattle.units.specs.declared.WideMillis.{WideMillis}
 use Rattle.units.specs.declared.standing.Standing.{Standing}
 use Rattle.units.specs.Limits.{clockHeld}
 use Rattle.units.specs.Standing.{tickStanding, stampStanding}
 use Rattle.window.specs.declared.Reference.{Reference}
-use Rattle.runs.specs.Encoding.{canonical}
 use Rattle.agreement.specs.declared.Record.{Record}
 use Rattle.agreement.specs.declared.refusal.Refusal.{Refusal}
 use Rattle.agreement.specs.declared.refusal.Refusal.the-variants.{Disagreement, NothingGiven, ClockLimit}
 use Rattle.agreement.specs.Agreement.{agrees}
 use Rattle.keeping.specs.declared.Outcome.{Outcome}
 use Rattle.keeping.specs.declared.Outcome.the-variants.{Accepted, Refused}
-use Rattle.keeping.specs.Keeping.{changedBy, wordsBy}
+use Rattle.keeping.specs.Keeping.{wordsKeeping, changedBy, wordsBy}
 use Rattle.keeping.specs.Append.{given, unspentOf, fitOutcome, appended}
 use Rattle.timeline.specs.Opening.{zeroRecord}
-use Rattle.timeline.specs.Appending.{byStanding, appendOutcome}
+use Rattle.timeline.specs.Appending.{unjoined_else_, appendOutcome}
 use Rattle.timeline.specs.Trimming.{unspentAt, trimOutcome, trimmed}
 use Rattle.laws.specs.Calls.{Call, byTick, byStamp, trimAt, State, appendTo, after, afterCalls, outcomeOf, ifAccepted, brought, allAccepted, Append, appendsOf, acceptedAppends, laidFrom}
 
@@ -36,7 +34,7 @@ left-by o new old = stateFrom (changedBy o (new .rec) (old .rec) .rec) (wordsBy 
 
 module _ (s : State) (st : Standing) (d n : ℕ) where
   abbrev pub appendLeaves : State
-  appendLeaves = stateFrom (appended (s .rec) (s .words) d n) (canonical (length (s .words)) (unspentOf (s .rec) (s .words) d n))
+  appendLeaves = stateFrom (appended (s .rec) (s .words) d n) (wordsKeeping (s .words) (unspentOf (s .rec) (s .words) d n))
 
   pub append-done : appendOutcome (s .rec) (s .words) st d n ≡ Accepted → appendTo s st d n ≡ appendLeaves
   unfolding changedBy wordsBy
@@ -48,7 +46,7 @@ module _ (s : State) (st : Standing) (d n : ℕ) where
 
 module _ (s : State) (m : WideMillis) where
   abbrev pub trimLeaves : State
-  trimLeaves = stateFrom (trimmed (s .rec) (s .words) (m .0)) (canonical (length (s .words)) (unspentAt (s .rec) (s .words) (m .0)))
+  trimLeaves = stateFrom (trimmed (s .rec) (s .words) (m .0)) (wordsKeeping (s .words) (unspentAt (s .rec) (s .words) (m .0)))
 
   pub trim-done : trimOutcome (s .rec) (s .words) m ≡ Accepted → after s (trimAt m) ≡ trimLeaves
   unfolding changedBy wordsBy
@@ -117,7 +115,7 @@ module _ (came : List ℕ) where
   no-append : (st : Standing) (d n : ℕ) → appendOutcome zeroRecord came st d n ≡ Refused Disagreement
   unfolding appendOutcome
   no-append st d n =
-      ap (λ b. cond b (cond (eqb d 0 || eqb n 0) (Refused NothingGiven) (byStanding st (fitOutcome zeroRecord came d n))) (Refused Disagreement)) zero-disagrees
+      ap (λ b. cond b (cond (eqb d 0 || eqb n 0) (Refused NothingGiven) (unjoined st else fitOutcome zeroRecord came d n)) (Refused Disagreement)) zero-disagrees
 
   no-trim : (m : WideMillis) → trimOutcome zeroRecord came m ≡ Refused Disagreement
   unfolding trimOutcome

@@ -28,7 +28,7 @@ use Rattle.keeping.specs.Append.{given, unspentOf, roomOutcome, fitOutcome}
 use Rattle.keeping.specs.Steps.{Fitting}
 use Rattle.keeping.proofs.Stored.{room-exactly}
 use Rattle.timeline.specs.Opening.{openOutcome, openAnswer}
-use Rattle.timeline.specs.Appending.{byStanding, appendOutcome, appendAnswer}
+use Rattle.timeline.specs.Appending.{unjoined_else_, appendOutcome, appendAnswer}
 use Rattle.timeline.specs.Trimming.{trimOutcome, trimAnswer}
 use Rattle.timeline.proofs.Kept.{or-none}
 use Rattle.laws.specs.Refusals.{lowest, some, overLimit, noRunLeft, appendRows, openRows, trimRows, appendTickRows, appendStampRows}
@@ -99,9 +99,9 @@ module _ (rec : Record) (ws : List ℕ) (d n : ℕ) where
           outcomeNumber
           (cond a
           (cond z (Refused refusal.NothingGiven)
-          (byStanding st
-          (cond e (cond c (cond b (cond r Accepted (Refused refusal.NoRunLeft)) (Refused refusal.PastEnd)) (Refused refusal.CountLimit))
-          (Refused refusal.TickLimit))))
+          (unjoined st else
+          cond e (cond c (cond b (cond r Accepted (Refused refusal.NoRunLeft)) (Refused refusal.PastEnd)) (Refused refusal.CountLimit))
+          (Refused refusal.TickLimit)))
           (Refused refusal.Disagreement)) ≡
           lowest
           ((not a, 2) ∷ (z, 3) ∷ (eqb (standingNumber st) 4, 4) ∷ (eqb (standingNumber st) 5, 5) ∷ (not e, 6) ∷ (not c, 7) ∷ (not b, 8) ∷ (not r, 9) ∷ [])

@@ -30,7 +30,7 @@ use Rattle.keeping.specs.declared.Outcome.the-variants.{Accepted, Refused}
 use Rattle.keeping.specs.Keeping.{outcomeNumber}
 use Rattle.keeping.specs.Append.{fitOutcome}
 use Rattle.timeline.specs.Opening.{openOutcome, openAnswer}
-use Rattle.timeline.specs.Appending.{byStanding, appendOutcome, appendAnswer}
+use Rattle.timeline.specs.Appending.{unjoined_else_, appendOutcome, appendAnswer}
 use Rattle.timeline.specs.Trimming.{trimAnswer}
 use Rattle.answers.specs.declared.Numbered.the-variants.{Missing}
 use Rattle.answers.specs.declared.Availability.the-variants as availability
@@ -158,7 +158,7 @@ appends rec ws st d n l =
     (sym (spans d ∙ ap (λ b. lowest ((eqb d 0, 3) ∷ (b, 3) ∷ [])) (le-ltb largestSpan d l)))
   where
     by : (a y z : Bool) (st : Standing) (o : Outcome) →
-        outcomeNumber (cond a (cond (y || z) (Refused refusal.NothingGiven) (byStanding st o)) (Refused refusal.Disagreement)) ≡
+        outcomeNumber (cond a (cond (y || z) (Refused refusal.NothingGiven) (unjoined st else o)) (Refused refusal.Disagreement)) ≡
         firstRefusal (cond a 0 2 ∷ cond y 3 0 ∷ cond z 3 0 ∷ standingNumber st ∷ outcomeNumber o ∷ [])
     by false y z st o = refl
     by true true z st o = refl

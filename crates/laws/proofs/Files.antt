@@ -15,7 +15,7 @@ use Rattle.window.specs.Place.{beforeEnd}
 use Rattle.window.specs.Ticks.{LeastCount}
 use Rattle.runs.specs.Words.{keptIn, capacity}
 use Rattle.runs.specs.Shape.{shaped}
-use Rattle.runs.specs.Encoding.{runsFor, canonical}
+use Rattle.runs.specs.Encoding.{runsFor}
 use Rattle.runs.proofs.EndToStart.{kept-join}
 use Rattle.runs.proofs.Tables.{runs-for-kept, canonical-kept}
 use Rattle.agreement.specs.declared.Record.{Record}
@@ -24,6 +24,7 @@ use Rattle.agreement.specs.declared.refusal.Refusal.the-variants.{Disagreement,
 use Rattle.agreement.specs.Agreement.{agrees, kept}
 use Rattle.agreement.proofs.Agreeing.{agree-shaped}
 use Rattle.keeping.specs.declared.Outcome.the-variants as outcome
+use Rattle.keeping.specs.Keeping.{wordsKeeping}
 use Rattle.keeping.specs.Append.{fitOutcome}
 use Rattle.timeline.specs.Appending.{appendOutcome}
 use Rattle.frames.specs.declared.SFields.{SFields}
@@ -105,7 +106,7 @@ read-back rec ws out n e came room = subst⁻¹ (ReadsBack rec ws came) bytes ba
           table = r .1;
           references =
               ap (keptIn (rec .used)) (r .1) ∙
-              ap (λ (u : ℕ). keptIn u (canonical (length came) (kept rec ws))) (sym (runs-for-kept (rec .used) ws shape)) ∙
+              ap (λ (u : ℕ). keptIn u (wordsKeeping came (kept rec ws))) (sym (runs-for-kept (rec .used) ws shape)) ∙
               canonical-kept (getD ws 0 0) (length came) (kept rec ws) (kept-join (rec .used) ws shape);
           number = omega arith;
           words = stable.same-words rec ws (w .agreed) came room some;

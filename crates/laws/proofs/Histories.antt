@@ -29,7 +29,7 @@ use Rattle.agreement.specs.Agreement.{kept, agrees}
 use Rattle.agreement.proofs.Agreeing.{agreeing}
 use Rattle.keeping.specs.declared.Outcome.{Outcome}
 use Rattle.keeping.specs.declared.Outcome.the-variants.{Accepted, Refused}
-use Rattle.keeping.specs.Keeping.{unspent, changedBy, wordsBy}
+use Rattle.keeping.specs.Keeping.{unspent, wordsKeeping, changedBy, wordsBy}
 use Rattle.keeping.specs.Append.{given, allOf, unspentOf, appended}
 use Rattle.keeping.proofs.Unspent.{unspent-append, unspent-few}
 use Rattle.timeline.specs.Opening.{freshRecord, zeroRecord, openOutcome}
@@ -124,7 +124,7 @@ module _ (h : Head) (t : Tick) (words : ℕ) where
             ap₂ (λ (a x : ℕ). record { head = h; accepted = a; dropped = x; next = record { 0 = lastEnd (t .0) acc + d * n }; clock = record { 0 = c }; used = runsFor (unspentOf (recordOf acc c) (wordsOf acc c) d n) }) count-is dropped-is ∙
             ap₂ (λ (x u : ℕ). record { head = h; accepted = length (acc ++ new); dropped = length (acc ++ new) - length (unspent h c (acc ++ new)); next = record { 0 = x }; clock = record { 0 = c }; used = u }) next-is (ap runsFor left-is)
 
-        words-is : canonical (length (wordsOf acc c)) (unspentOf (recordOf acc c) (wordsOf acc c) d n) ≡ wordsOf (acc ++ new) c
+        words-is : wordsKeeping (wordsOf acc c) (unspentOf (recordOf acc c) (wordsOf acc c) d n) ≡ wordsOf (acc ++ new) c
         words-is = ap₂ canonical (fit .long) left-is
 
         append-state : appendTo (stateOf acc c) st d n ≡ stateOf (acc ++ new) c
@@ -171,7 +171,7 @@ module _ (h : Head) (t : Tick) (words : ℕ) where
         trimmed-is =
             ap₂ (λ (x u : ℕ). record { head = h; accepted = length acc; dropped = x; next = record { 0 = lastEnd (t .0) acc }; clock = record { 0 = max c (m .0) }; used = u }) more-dropped (ap runsFor less-is)
 
-        trim-words : canonical (length (wordsOf acc c)) (unspentAt (recordOf acc c) (wordsOf acc c) (m .0)) ≡ wordsOf acc (max c (m .0))
+        trim-words : wordsKeeping (wordsOf acc c) (unspentAt (recordOf acc c) (wordsOf acc c) (m .0)) ≡ wordsOf acc (max c (m .0))
         trim-words = ap₂ canonical (fit .long) less-is
 
         trim-state : after (stateOf acc c) (trimAt m) ≡ stateOf acc (max c (m .0))

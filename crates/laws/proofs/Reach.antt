@@ -24,7 +24,7 @@ use Rattle.keeping.specs.declared.Outcome.{Outcome}
 use Rattle.keeping.specs.declared.Outcome.the-variants.{Refused}
 use Rattle.keeping.specs.Keeping.{outcomeNumber}
 use Rattle.keeping.specs.Append.{fitOutcome}
-use Rattle.timeline.specs.Appending.{byStanding, appendOutcome}
+use Rattle.timeline.specs.Appending.{unjoined_else_, appendOutcome}
 use Rattle.timeline.proofs.Judged.{stands-joins}
 use Rattle.file.specs.Least.{leastCount}
 use Rattle.file.specs.Judging.{reachOutcome}
@@ -70,7 +70,7 @@ least-before h s d n b l (suc m) k = before-unless h (s + d * suc m) (l .least (
 by-tests : (z k f : Bool) (st : Standing) (o : Outcome) (after before past : Bool) (rows : List (Bool × ℕ)) →
     eqb (standingNumber st) 4 ≡ after → eqb (standingNumber st) 5 ≡ before → (z ≡ false → f ≡ false → past ≡ true) →
     (z ≡ false → k ≡ false → f ≡ true → outcomeNumber o ≡ lowest ((past, 8) ∷ rows)) →
-    outcomeNumber (cond z (Refused refusal.NothingGiven) (byStanding st (cond (not k) (cond f o (Refused refusal.PastEnd)) (Refused refusal.NoEndToReach)))) ≡
+    outcomeNumber (cond z (Refused refusal.NothingGiven) (unjoined st else cond (not k) (cond f o (Refused refusal.PastEnd)) (Refused refusal.NoEndToReach))) ≡
     lowest ((z, 3) ∷ (after, 4) ∷ (before, 5) ∷ (k, 18) ∷ (past, 8) ∷ rows)
 by-tests true k f st o after before past rows a b p q = refl
 by-tests false k f Gap o after before past rows a b p q = ap (λ t. lowest ((t, 4) ∷ (before, 5) ∷ (k, 18) ∷ (past, 8) ∷ rows)) a

@@ -13,14 +13,13 @@ use Rattle.units.specs.declared.standing.Standing.{Standing}
 use Rattle.units.specs.declared.standing.Standing.the-variants.{Joins}
 use Rattle.units.specs.Limits.{largestSpan, tickOf}
 use Rattle.units.specs.Standing.{standingBy, tickStanding}
-use Rattle.runs.specs.Encoding.{canonical}
 use Rattle.runs.proofs.Tables.{canonical-length}
 use Rattle.agreement.specs.declared.refusal.Refusal.{Refusal}
 use Rattle.agreement.specs.Agreement.{agrees}
 use Rattle.agreement.specs.Numbers.{refusalNumber}
 use Rattle.keeping.specs.declared.Outcome.{Outcome}
 use Rattle.keeping.specs.declared.Outcome.the-variants as outcome
-use Rattle.keeping.specs.Keeping.{outcomeNumber, changedBy, wordsBy}
+use Rattle.keeping.specs.Keeping.{wordsKeeping, outcomeNumber, changedBy, wordsBy}
 use Rattle.keeping.specs.Append.{unspentOf, appended}
 use Rattle.timeline.specs.Appending.{appendOutcome}
 use Rattle.timeline.proofs.Kept.{taken, accepted-keeps}
@@ -90,13 +89,13 @@ module _ (x : State) (s : SFields) (n : ℕ) (st : Stage) (agreed : agrees (x .r
   -- what is left where m references are appended
   left-is : (m : ℕ) → appendOutcome (x .rec) (x .words) standing (s .d) m ≡ outcome.Accepted →
       after x (byTick start (s .d) m) ≡
-      record { rec = appended (x .rec) (x .words) (s .d) m; words = canonical (length (x .words)) (unspentOf (x .rec) (x .words) (s .d) m) }
+      record { rec = appended (x .rec) (x .words) (s .d) m; words = wordsKeeping (x .words) (unspentOf (x .rec) (x .words) (s .d) m) }
   unfolding changedBy wordsBy
   left-is m e =
       ap
       (λ o. record {
         rec = changedBy o (appended (x .rec) (x .words) (s .d) m) (x .rec) .rec;
-        words = wordsBy o (canonical (length (x .words)) (unspentOf (x .rec) (x .words) (s .d) m)) (x .words);
+        words = wordsBy o (wordsKeeping (x .words) (unspentOf (x .rec) (x .words) (s .d) m)) (x .words);
       })
       e
 
@@ -108,7 +107,7 @@ module _ (x : State) (s : SFields) (n : ℕ) (st : Stage) (agreed : agrees (x .r
   by-outcome outcome.Accepted goal m e g f =
       let d = s .d in
       let o = f refl .1 in
-      let is : after x (callOf x s) ≡ record { rec = appended (x .rec) (x .words) d m; words = canonical (length (x .words)) (unspentOf (x .rec) (x .words) d m) } =
+      let is : after x (callOf x s) ≡ record { rec = appended (x .rec) (x .words) d m; words = wordsKeeping (x .words) (unspentOf (x .rec) (x .words) d m) } =
       ap (λ (k : ℕ). after x (byTick start d k)) (f refl .0) ∙ left-is m o
       in
       on e

@@ -21,7 +21,7 @@ use Rattle.window.specs.Window.{endOf, needed, Spent, passed}
 use Rattle.window.specs.References.{EndToStart, Each, Sound}
 use Rattle.window.proofs.Spending.{passed-spent, yet-needed, spent-is}
 use Rattle.window.proofs.Unsigned.{endAt, placeN, lowN, cutN, highN, needed-is, before-is}
-use Rattle.runs.specs.Encoding.{runsFor, canonical}
+use Rattle.runs.specs.Encoding.{runsFor}
 use Rattle.runs.specs.Ends.{lastEnd}
 use Rattle.runs.proofs.EndToStart.{join-append, each-append, repeated-join, kept-join, kept-within}
 use Rattle.runs.proofs.Tables.{canonical-is, canonical-length, runs-for-kept}
@@ -30,7 +30,7 @@ use Rattle.agreement.specs.declared.refusal.Refusal.the-variants.{Disagreement,
 use Rattle.agreement.specs.Agreement.{kept, agrees}
 use Rattle.agreement.proofs.Agreeing as tests
 use Rattle.keeping.specs.declared.Outcome.the-variants.{Accepted, Refused}
-use Rattle.keeping.specs.Keeping.{unspent, changedBy, wordsBy}
+use Rattle.keeping.specs.Keeping.{unspent, wordsKeeping, changedBy, wordsBy}
 use Rattle.keeping.specs.Append.{given}
 use Rattle.keeping.proofs.Unspent.{unspent-every, unspent-few}
 use Rattle.timeline.specs.Appending.{appendOutcome}
@@ -89,7 +89,7 @@ module _ (s : State) (t : ℕ) (all : List Reference) (joined : EndToStart t all
         clock = c;
         used = runsFor left;
       })
-      (canonical (length (s .words)) left)
+      (wordsKeeping (s .words) left)
 
   keeps : agrees (leaving .rec) (leaving .words) ≡ true → runsFor left ≤ length (s .words) / 3 → Keeps s leaving (c .0) all
   keeps agreed room =
@@ -104,7 +104,7 @@ module _ (s : State) (t : ℕ) (all : List Reference) (joined : EndToStart t all
               agreed = agreed;
               long = canonical-length (length (s .words)) left room;
               used = sym (ap runsFor kept-is);
-              table = sym (ap (canonical (length (s .words))) kept-is);
+              table = sym (ap (wordsKeeping (s .words)) kept-is);
             };
       }
 
@@ -150,7 +150,7 @@ module _ (rec : Record) (ws : List ℕ) (c : WideMillis) (a : agrees rec ws ≡ 
   unfolding changedBy wordsBy
   trim-earlier = (
     ap₂ (λ o r. changedBy o r rec) taken-up same-record,
-    ap₂ (λ o rs. wordsBy o (canonical (length ws) rs) ws) taken-up none-spent ∙ sym (canonical-is (rec .used) ws (facts .table)),
+    ap₂ (λ o rs. wordsBy o (wordsKeeping ws rs) ws) taken-up none-spent ∙ sym (canonical-is (rec .used) ws (facts .table)),
   )
 
 -- ---- an append

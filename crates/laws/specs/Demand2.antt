@@ -25,12 +25,12 @@ use Rattle.window.specs.Place.{beforeEnd}
 use Rattle.window.specs.Window.{Stretch, windowAt, wholePeriod, tickNeeded}
 use Rattle.window.specs.Ticks.{LeastCount}
 use Rattle.runs.specs.Words.{capacity}
-use Rattle.runs.specs.Encoding.{canonical}
 use Rattle.agreement.specs.declared.Record.{Record}
 use Rattle.agreement.specs.declared.refusal.Refusal.{Refusal}
 use Rattle.agreement.specs.declared.refusal.Refusal.the-variants as refusal
 use Rattle.agreement.specs.Agreement.{kept, agrees}
 use Rattle.keeping.specs.declared.Outcome.the-variants as outcome
+use Rattle.keeping.specs.Keeping.{wordsKeeping}
 use Rattle.keeping.specs.Append.{fitOutcome}
 use Rattle.answers.specs.declared.Verdict.the-variants as verdict
 use Rattle.answers.specs.declared.Percent.the-variants.{Of}
@@ -135,10 +135,10 @@ pub record Writes (rec : Record) (ws : List ℕ) (room n : ℕ) : Type 0 where
   pub fits : n ≤ room
 
 -- bytes that read, into a table that came with the words `came`, as what record and table keep: the record is exactly
--- `readBack`, the table is the canonical one of the same references, and their numbers are the same
+-- `readBack`, the table keeps just the same references, and their numbers are the same
 pub record ReadsBack (rec : Record) (ws came bytes : List ℕ) : Type 0 where
   pub answer : readAnswer bytes came ≡ record { outcome = outcome.Accepted; rec = readBack rec ws; line = 0 }
-  pub table : readTable bytes came ≡ canonical (length came) (kept rec ws)
+  pub table : readTable bytes came ≡ wordsKeeping came (kept rec ws)
   pub references : kept (readBack rec ws) (readTable bytes came) ≡ kept rec ws
   pub number : firstKept (readBack rec ws) ≡ firstKept rec
   -- in a table as long as the one that was written from, the words are the same too

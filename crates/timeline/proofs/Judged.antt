@@ -6,7 +6,6 @@ use Prim.Native.Nat.{ℕ}
 use native.Mathlib.Omega.{arith}
 use borrow.Author.Tests.{eq-eqb, ne-eqb}
 use lib.Dec.{eqb}
-use lib.ListN.{length}
 use mir.Syntax.{w32}
 use mir.Val.{Fits}
 use Rattle.units.specs.declared.standing.Standing.{Standing}
@@ -18,15 +17,14 @@ use Rattle.units.specs.Limits.{spanHeld, spanMade}
 use Rattle.units.proofs.Choice.{chosen}
 use Rattle.units.proofs.Guards.{refused}
 use Rattle.units.proofs.Makers as makers
-use Rattle.runs.specs.Encoding.{canonical}
 use Rattle.agreement.specs.declared.Record.{Record}
 use Rattle.agreement.specs.declared.refusal.Refusal.the-variants as refusal
 use Rattle.agreement.specs.Agreement.{agrees}
 use Rattle.keeping.specs.declared.Outcome.the-variants.{Refused}
 use Rattle.keeping.specs.declared.Changed.{Changed}
-use Rattle.keeping.specs.Keeping.{changedBy, wordsBy}
+use Rattle.keeping.specs.Keeping.{wordsKeeping, changedBy, wordsBy}
 use Rattle.keeping.specs.Append.{unspentOf, fitOutcome, appended}
-use Rattle.timeline.specs.Appending.{byStanding, appendOutcome, appendAnswer, appendTable}
+use Rattle.timeline.specs.Appending.{unjoined_else_, appendOutcome, appendAnswer, appendTable}
 
 module _ (rec : Record) (ws : List ℕ) (st : Standing) (d n : ℕ) where
   pub disagrees : (t : Bool) → t ≡ agrees rec ws → not t ≡ true → appendOutcome rec ws st d n ≡ Refused refusal.Disagreement
@@ -34,11 +32,11 @@ module _ (rec : Record) (ws : List ℕ) (st : Standing) (d n : ℕ) where
   disagrees t e m = sym (refused t _ _ _ e m)
 
   module _ (a : agrees rec ws ≡ true) where
-    given : (u v : Bool) → eqb d 0 ≡ u → eqb n 0 ≡ v → appendOutcome rec ws st d n ≡ cond (u || v) (Refused refusal.NothingGiven) (byStanding st (fitOutcome rec ws d n))
+    given : (u v : Bool) → eqb d 0 ≡ u → eqb n 0 ≡ v → appendOutcome rec ws st d n ≡ cond (u || v) (Refused refusal.NothingGiven) (unjoined st else fitOutcome rec ws d n)
     unfolding appendOutcome
     given u v k l =
         sym (chosen _ _ _ _ refl a) ∙
-        ap₂ (λ x y. cond (x || y) (Refused refusal.NothingGiven) (byStanding st (fitOutcome rec ws d n))) k l
+        ap₂ (λ x y. cond (x || y) (Refused refusal.NothingGiven) (unjoined st else fitOutcome rec ws d n)) k l
 
     pub no-duration : d ≡ 0 → appendOutcome rec ws st d n ≡ Refused refusal.NothingGiven
     no-duration z = given true (eqb n 0) (eq-eqb d 0 z) refl
@@ -48,17 +46,17 @@ module _ (rec : Record) (ws : List ℕ) (st : Standing) (d n : ℕ) where
       no-count z = given false true (ne-eqb d 0 i) (eq-eqb n 0 z)
 
       module _ (j : n ≡ 0 → ⊥) where
-        stands : appendOutcome rec ws st d n ≡ byStanding st (fitOutcome rec ws d n)
+        stands : appendOutcome rec ws st d n ≡ (unjoined st else fitOutcome rec ws d n)
         stands = given false false (ne-eqb d 0 i) (ne-eqb n 0 j)
 
         pub stands-gap : st ≡ Gap → appendOutcome rec ws st d n ≡ Refused refusal.Gap
-        stands-gap e = stands ∙ ap (λ s. byStanding s (fitOutcome rec ws d n)) e
+        stands-gap e = stands ∙ ap (λ s. unjoined s else fitOutcome rec ws d n) e
 
         pub stands-overlap : st ≡ Overlap → appendOutcome rec ws st d n ≡ Refused refusal.Overlap
-        stands-overlap e = stands ∙ ap (λ s. byStanding s (fitOutcome rec ws d n)) e
+        stands-overlap e = stands ∙ ap (λ s. unjoined s else fitOutcome rec ws d n) e
 
         pub stands-joins : st ≡ Joins → appendOutcome rec ws st d n ≡ fitOutcome rec ws d n
-        stands-joins e = stands ∙ ap (λ s. byStanding s (fitOutcome rec ws d n)) e
+        stands-joins e = stands ∙ ap (λ s. unjoined s else fitOutcome rec ws d n) e
 
 -- the same by the span that the constructor made of the duration, which is one of 32 bits
 module _ (rec : Record) (ws : List ℕ) (st : Standing) (d n : ℕ) (a : agrees rec ws ≡ true) (made : SpanMade) (e : made ≡ spanMade d) where
@@ -94,10 +92,10 @@ module _ (rec : Record) (ws : List ℕ) (st : Standing) (d n : ℕ) (a : agrees 
             f ∙ ap (λ (x : Span). changedBy (fitOutcome rec ws (x .0) n) (appended rec ws (x .0) n) rec) is ∙
             ap (λ o. changedBy o (appended rec ws d n) rec) joins
 
-        pub span-words : (vs : List ℕ) → vs ≡ wordsBy (fitOutcome rec ws (s .0) n) (canonical (length ws) (unspentOf rec ws (s .0) n)) ws → vs ≡ appendTable rec ws st d n
+        pub span-words : (vs : List ℕ) → vs ≡ wordsBy (fitOutcome rec ws (s .0) n) (wordsKeeping ws (unspentOf rec ws (s .0) n)) ws → vs ≡ appendTable rec ws st d n
         span-words vs f =
-            f ∙ ap (λ (x : Span). wordsBy (fitOutcome rec ws (x .0) n) (canonical (length ws) (unspentOf rec ws (x .0) n)) ws) is ∙
-            ap (λ o. wordsBy o (canonical (length ws) (unspentOf rec ws d n)) ws) joins
+            f ∙ ap (λ (x : Span). wordsBy (fitOutcome rec ws (x .0) n) (wordsKeeping ws (unspentOf rec ws (x .0) n)) ws) is ∙
+            ap (λ o. wordsBy o (wordsKeeping ws (unspentOf rec ws d n)) ws) joins
 
 -- the standing that was found is the one that is meant
 module _ (rec : Record) (ws : List ℕ) (d n : ℕ) (st meant : Standing) (e : st ≡ meant) where

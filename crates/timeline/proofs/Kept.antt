@@ -33,13 +33,13 @@ use Rattle.keeping.specs.declared.Outcome.{Outcome}
 use Rattle.keeping.specs.declared.Outcome.the-variants.{Accepted, Refused}
 use Rattle.keeping.specs.Append.{given, allOf, unspentOf, roomOutcome, fitOutcome, appended}
 use Rattle.keeping.specs.Steps.{Fitting}
-use Rattle.keeping.specs.Keeping.{unspent}
+use Rattle.keeping.specs.Keeping.{unspent, wordsKeeping}
 use Rattle.keeping.proofs.Unspent.{unspent-append, unspent-every}
 use Rattle.keeping.proofs.Kept.{step-agrees, left-runs, append-keeps}
 use Rattle.keeping.proofs.Outcomes.{refused-not, past-if, past-unless}
 use Rattle.timeline.specs.Opening.{freshRecord, openOutcome}
 use Rattle.timeline.specs.Trimming.{clockRaised, unspentAt, trimmed}
-use Rattle.timeline.specs.Appending.{byStanding, appendOutcome}
+use Rattle.timeline.specs.Appending.{unjoined_else_, appendOutcome}
 
 -- ---- opening
 
@@ -102,7 +102,7 @@ module _ (rec : Record) (ws : List ℕ) (c : WideMillis) (a : agrees rec ws ≡ 
       (kept-within (rec .used) ws (facts .table)) (facts .ends) (facts .begun) all-there)
       (subst⁻¹ (λ (n : ℕ). n ≤ length ws / 3) (runs-for-kept (rec .used) ws (facts .table)) (used-fits (rec .used) ws (facts .table)))
 
-  pub trim-keeps : agrees (trimmed rec ws (c .0)) (canonical (length ws) (unspentAt rec ws (c .0))) ≡ true
+  pub trim-keeps : agrees (trimmed rec ws (c .0)) (wordsKeeping ws (unspentAt rec ws (c .0))) ≡ true
   trim-keeps =
       step-agrees (clockRaised rec (c .0)) (length ws) (getD ws 0 0) (kept rec ws) (kept-join (rec .used) ws (facts .table))
       (kept-within (rec .used) ws (facts .table)) (facts .ends) (facts .begun) all-there raised-held trim-room
@@ -113,7 +113,7 @@ module _ (rec : Record) (ws : List ℕ) (c : WideMillis) (a : agrees rec ws ≡ 
 
 -- ---- an append that is accepted
 
-past-standing : (st : Standing) (x : Outcome) → byStanding st x ≡ Accepted → (st ≡ Joins) × (x ≡ Accepted)
+past-standing : (st : Standing) (x : Outcome) → (unjoined st else x) ≡ Accepted → (st ≡ Joins) × (x ≡ Accepted)
 past-standing Joins x e = (refl, e)
 past-standing Gap x e = absurd (refused-not refusal.Gap e)
 past-standing Overlap x e = absurd (refused-not refusal.Overlap e)
@@ -136,8 +136,8 @@ pub record Taken (rec : Record) (ws : List ℕ) (st : Standing) (d n : ℕ) : Ty
 pub taken : (rec : Record) (ws : List ℕ) (st : Standing) (d n : ℕ) → appendOutcome rec ws st d n ≡ Accepted → Taken rec ws st d n
 unfolding appendOutcome fitOutcome roomOutcome
 taken rec ws st d n o =
-    let a = past-if (agrees rec ws) (cond (eqb d 0 || eqb n 0) (Refused refusal.NothingGiven) (byStanding st (fitOutcome rec ws d n))) refusal.Disagreement o in
-    let b = past-unless (eqb d 0 || eqb n 0) (byStanding st (fitOutcome rec ws d n)) refusal.NothingGiven (a .1) in
+    let a = past-if (agrees rec ws) (cond (eqb d 0 || eqb n 0) (Refused refusal.NothingGiven) (unjoined st else fitOutcome rec ws d n)) refusal.Disagreement o in
+    let b = past-unless (eqb d 0 || eqb n 0) (unjoined st else fitOutcome rec ws d n) refusal.NothingGiven (a .1) in
     let z = or-none (eqb d 0) (eqb n 0) (b .0) in
     let j = past-standing st (fitOutcome rec ws d n) (b .1) in
     let begins = every (λ r. beforeEnd (rec .head) (r .start .0)) (given rec d n) in
@@ -170,7 +170,7 @@ module _ (rec : Record) (ws : List ℕ) (st : Standing) (d n : ℕ) (narrow : d 
         counts = t .numbers;
       }
 
-  pub accepted-keeps : agrees (appended rec ws d n) (canonical (length ws) (unspentOf rec ws d n)) ≡ true
+  pub accepted-keeps : agrees (appended rec ws d n) (wordsKeeping ws (unspentOf rec ws d n)) ≡ true
   accepted-keeps =
       let t = taken rec ws st d n o in
       append-keeps rec ws (record { 0 = d }) n accepted-fits (t .begins) (t .room)
@@ -184,10 +184,10 @@ module _ (rec : Record) (ws : List ℕ) (st : Standing) (d n : ℕ) (narrow : d 
         ap₂ _++_ (unspent-every (rec .head) (rec .clock .0) (kept rec ws) (f .coming)) spent ∙
         append-nil (kept rec ws)
 
-    pub spent-words : canonical (length ws) (unspentOf rec ws d n) ≡ ws
+    pub spent-words : wordsKeeping ws (unspentOf rec ws d n) ≡ ws
     spent-words =
         let f = agreeing rec ws (taken rec ws st d n o .agreed) in
-        ap (canonical (length ws)) same-left ∙ sym (canonical-is (rec .used) ws (f .table))
+        ap (wordsKeeping ws) same-left ∙ sym (canonical-is (rec .used) ws (f .table))
 
     pub spent-counts : appended rec ws d n ≡
         record { head = rec .head; accepted = rec .accepted + n; dropped = rec .dropped + n; next = record { 0 = rec .next .0 + d * n }; clock = rec .clock; used = rec .used }

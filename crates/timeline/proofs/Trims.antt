@@ -18,13 +18,14 @@ use Rattle.units.proofs.Guards.{refused, allowed}
 use Rattle.units.proofs.Makers.{milliseconds}
 use Rattle.window.specs.declared.Passed.{Passed}
 use Rattle.window.specs.Ticks.{EndsPassed}
-use Rattle.runs.specs.Encoding.{runsFor, canonical}
+use Rattle.runs.specs.Encoding.{runsFor}
 use Rattle.runs.proofs.EndToStart.{kept-join}
 use Rattle.agreement.specs.declared.Record.{Record}
 use Rattle.agreement.specs.declared.refusal.Refusal.the-variants.{Disagreement, ClockLimit}
 use Rattle.agreement.specs.Agreement.{kept, agrees}
 use Rattle.agreement.proofs.Agreeing.{Agreeing, agreeing}
 use Rattle.keeping.specs.declared.Outcome.the-variants.{Accepted, Refused}
+use Rattle.keeping.specs.Keeping.{wordsKeeping}
 use Rattle.keeping.specs.Steps.{countPassed}
 use Rattle.keeping.proofs.Unspent.{count-most, unspent-is}
 use Rattle.timeline.specs.Trimming.{unspentAt, trimmed, trimOutcome}
@@ -68,8 +69,8 @@ module _ (rec : Record) (ws : List ℕ) (c : WideMillis) (t : Bool) (e : t ≡ a
       pub trim-made : (r : Record) → r ≡ trimmed rec ws (at .0) → r ≡ trimmed rec ws (c .0)
       trim-made r f = f ∙ ap (λ (x : Millis). trimmed rec ws (x .0)) is
 
-      pub trim-left : (vs : List ℕ) → vs ≡ canonical (length ws) (unspentAt rec ws (at .0)) → vs ≡ canonical (length ws) (unspentAt rec ws (c .0))
-      trim-left vs f = f ∙ ap (λ (x : Millis). canonical (length ws) (unspentAt rec ws (x .0))) is
+      pub trim-left : (vs : List ℕ) → vs ≡ wordsKeeping ws (unspentAt rec ws (at .0)) → vs ≡ wordsKeeping ws (unspentAt rec ws (c .0))
+      trim-left vs f = f ∙ ap (λ (x : Millis). wordsKeeping ws (unspentAt rec ws (x .0))) is
 
 -- ---- the step
 
@@ -110,5 +111,5 @@ module _ (rec : Record) (ws : List ℕ) (a : agrees rec ws ≡ true) where
           ap (λ (n : ℕ). record { head = rec .head; accepted = rec .accepted; dropped = rec .dropped + (length (kept rec ws) - length (unspentAt rec ws c)); next = rec .next; clock = record { 0 = max (rec .clock .0) c }; used = n })
           (u ∙ ap runsFor (sym left-is))
 
-      pub trim-table : (vs : List ℕ) → vs ≡ canonical (length ws) (drop spent (kept rec ws)) → vs ≡ canonical (length ws) (unspentAt rec ws c)
-      trim-table vs v = v ∙ ap (canonical (length ws)) (sym left-is)
+      pub trim-table : (vs : List ℕ) → vs ≡ wordsKeeping ws (drop spent (kept rec ws)) → vs ≡ wordsKeeping ws (unspentAt rec ws c)
+      trim-table vs v = v ∙ ap (wordsKeeping ws) (sym left-is)

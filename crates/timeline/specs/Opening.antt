@@ -2,7 +2,7 @@
 -- field or the first tick is over its limit: then the record is zero and the table as it came. Paper: Record and table;
 -- Refusal numbers, 1.
 use Prim.Native.Nat.{ℕ}
-use mathlib.Core.Bool.{cond, _&&_}
+use mathlib.Core.Bool.{_&&_}
 use mathlib.Core.List.{List}
 use lib.ListN.{length, replicate}
 use Rattle.units.specs.declared.Tick.{Tick}
@@ -11,6 +11,7 @@ use Rattle.window.specs.declared.Head.{Head}
 use Rattle.window.specs.Limits.{headHeld}
 use Rattle.agreement.specs.declared.Record.{Record}
 use Rattle.agreement.specs.declared.refusal.Refusal.the-variants.{OverLimit}
+use Rattle.agreement.specs.Rows.{_unless_else_}
 use Rattle.keeping.specs.declared.Outcome.{Outcome}
 use Rattle.keeping.specs.declared.Outcome.the-variants.{Accepted, Refused}
 use Rattle.keeping.specs.declared.Changed.{Changed}
@@ -34,7 +35,7 @@ zeroRecord =
     (record { 0 = 0 })
 
 unfoldable pub openOutcome : Head → Tick → Outcome
-openOutcome h t = cond (headHeld h && tickHeld t) Accepted (Refused OverLimit)
+openOutcome h t = Refused OverLimit unless headHeld h && tickHeld t else Accepted
 
 abbrev pub openAnswer : Head → Tick → Changed
 openAnswer h t = changedBy (openOutcome h t) (freshRecord h t) zeroRecord

@@ -2,10 +2,9 @@
 ghost use mathlib.Core.Path.{_≡_};
 ghost use mathlib.Core.Bool.{true};
 ghost use Prim.Native.Nat.{_≤_, max};
-ghost use lib.ListN.{length};
 ghost use Rattle.units.specs.Limits.{largestMillis};
-ghost use Rattle.runs.specs.Encoding.{canonical};
 ghost use Rattle.agreement.specs.Agreement.{agrees};
+ghost use Rattle.keeping.specs.Keeping.{wordsKeeping};
 ghost use Rattle.timeline.specs.Trimming.{unspentAt, trimmed, trimAnswer, trimTable};
 use agreement::Record;
 use agreement::Refusal;
@@ -30,7 +29,7 @@ fn greater(a: Millis, b: Millis) -> Millis
 fn trim_agreeing(rec: Record, table: &mut [u64], clock: Millis) -> Record
     requires { ⌜ (agrees rec (now table) ≡ true) × (clock .0 ≤ largestMillis) ⌝ }
     ensures { λ r. ⌜ r ≡ trimmed rec (now (table .entry)) (clock .0) ⌝ }
-    ensures { λ _. ⌜ now (table .exit) ≡ canonical (length (now (table .entry))) (unspentAt rec (now (table .entry)) (clock .0)) ⌝ }
+    ensures { λ _. ⌜ now (table .exit) ≡ wordsKeeping (now (table .entry)) (unspentAt rec (now (table .entry)) (clock .0)) ⌝ }
 {
     let greatest = greater(rec.clock, clock);
     let passed = rec.head.passed_ends(greatest);
