@@ -25,7 +25,7 @@ use Rattle.flonterri.specs.Tells.{verdictTells, availabilityTells, touchingTell
 use Rattle.flonterri.specs.Face.{opens, appends, appendsStamp, trims, tellsVerdict, tellsWhole, tellsAvailability, tellsTouching, writes}
 use Rattle.flonterri.proofs.Refusing as refusing
 use Rattle.laws.specs.Refusals.{lowest, overLimit, openRows, appendTickRows, appendStampRows, trimRows, verdictRows, wholeRows, availabilityRows, touchingRows, writeRows}
-use Rattle.laws.specs.Demand1.{GivesNumber, lengthRows, ChangesFromC, OpensFromC, TellsC, Demand1}
+use Rattle.laws.specs.Demand1.{GivesNumber, lengthRows, ChangesFromC, OpensFromC, TellsC, Answers, Demand1}
 use Rattle.laws.proofs.Refusals.{refusals}
 use Rattle.laws.proofs.Answering.{changing, verdict-only, availability-only, available-only, touching-only, no-part, write-leaves, reading, feeding, finishing, changes-number, tells-number, verdict-told, availability-told, touching-told, writes-number, changes-c, tells-c, length-alone, reads-c, writes-c}
 
@@ -127,118 +127,76 @@ module _ (ws ts : List ℕ) where
       (writes-number ws bytes out (writeAnswer (recordOf ws) ts (length bytes)) _ rows (refusals .write (recordOf ws) ts (length bytes)))
       (refusing.write-refused ws ts bytes out) x after line e f g
 
+-- a call that asks nothing
+answered : {K A X E : Type 0} {said : K → A → X → E → Type 0} {so : A → X → E → Type 0} → ((κs : K) (a : A) (x : X) (e : E) → said κs a x e → so a x e) →
+    Answers (λ κs a. Unit {0}) said so
+answered right = record { any = λ κs a. tt; right = right }
+
 pub demand-1 : Demand1
 demand-1 =
     record {
       opening =
-          record {
-            any = λ κs a. tt;
-            right = λ κs a x e p.
-                let h = headOf (a .0) in
-                let t = tickOf (a .1 .0) in
-                changing (openOutcome h t) _ zeroRecord _ (now (a .1 .1 .0)) (openRows h t) (refusals .opening h t) x _ (p .0) (p .1);
-          };
+          answered (λ κs (fields, (first, (table, _))) x e p.
+          let h = headOf fields in
+          let t = tickOf first in
+          changing (openOutcome h t) _ zeroRecord _ (now table) (openRows h t) (refusals .opening h t) x _ (p .0) (p .1));
       append =
-          record {
-            any = λ κs a. tt;
-            right = λ κs a x e p narrow.
-                changing (appendOutcome (a .0) (now (a .1 .0)) (tickStanding (a .1 .1 .0) (a .0 .next)) (a .1 .1 .1 .0) (a .1 .1 .1 .1 .0)) _ (a .0) _ (now (a .1 .0)) _
-                (refusals .append (a .0) (now (a .1 .0)) (a .1 .1 .0) (a .1 .1 .1 .0) (a .1 .1 .1 .1 .0) narrow) x _ (p .0) (p .1);
-          };
+          answered (λ κs (rec, (table, (start, (d, (n, _))))) x e p narrow.
+          changing (appendOutcome rec (now table) (tickStanding start (rec .next)) d n) _ rec _ (now table) _
+          (refusals .append rec (now table) start d n narrow) x _ (p .0) (p .1));
       append-stamp =
-          record {
-            any = λ κs a. tt;
-            right = λ κs a x e p narrow.
-                changing (appendOutcome (a .0) (now (a .1 .0)) (stampStanding (a .1 .1 .0) (a .0 .next)) (a .1 .1 .1 .0) (a .1 .1 .1 .1 .0)) _ (a .0) _ (now (a .1 .0)) _
-                (refusals .append-stamp (a .0) (now (a .1 .0)) (a .1 .1 .0) (a .1 .1 .1 .0) (a .1 .1 .1 .1 .0) narrow) x _ (p .0) (p .1);
-          };
+          answered (λ κs (rec, (table, (stamp, (d, (n, _))))) x e p narrow.
+          changing (appendOutcome rec (now table) (stampStanding stamp (rec .next)) d n) _ rec _ (now table) _
+          (refusals .append-stamp rec (now table) stamp d n narrow) x _ (p .0) (p .1));
       trim =
-          record {
-            any = λ κs a. tt;
-            right = λ κs a x e p.
-                changing (trimOutcome (a .0) (now (a .1 .0)) (a .1 .1 .0)) _ (a .0) _ (now (a .1 .0)) _ (refusals .trim (a .0) (now (a .1 .0)) (a .1 .1 .0)) x _ (p .0) (p .1);
-          };
-      verdict =
-          record {
-            any = λ κs a. tt;
-            right = λ κs a x e p. moved verdictNumber x _ p (refusals .verdict (a .0) (now (a .1 .0)) (a .1 .1 .0)) (verdict-only x);
-          };
-      verdict-whole =
-          record {
-            any = λ κs a. tt;
-            right = λ κs a x e p. moved verdictNumber x _ p (refusals .verdict-whole (a .0) (now (a .1 .0))) (verdict-only x);
-          };
+          answered (λ κs (rec, (table, (clock, _))) x e p.
+          changing (trimOutcome rec (now table) clock) _ rec _ (now table) _ (refusals .trim rec (now table) clock) x _ (p .0) (p .1));
+      verdict = answered (λ κs (rec, (table, (clock, _))) x e p. moved verdictNumber x _ p (refusals .verdict rec (now table) clock) (verdict-only x));
+      verdict-whole = answered (λ κs (rec, (table, _)) x e p. moved verdictNumber x _ p (refusals .verdict-whole rec (now table)) (verdict-only x));
       availability =
-          record {
-            any = λ κs a. tt;
-            right = λ κs a x e p. moved availabilityNumber x _ p (refusals .availability (a .0) (now (a .1 .0)) (a .1 .1 .0)) (availability-only x);
-          };
+          answered (λ κs (rec, (table, (number, _))) x e p.
+          moved availabilityNumber x _ p (refusals .availability rec (now table) number) (availability-only x));
       available-at =
-          record {
-            any = λ κs a. tt;
-            right = λ κs a x e p. moved availableNumber x _ p (refusals .available-at (a .0) (now (a .1 .0)) (a .1 .1 .0) (a .1 .1 .1 .0)) (available-only x);
-          };
+          answered (λ κs (rec, (table, (number, (clock, _)))) x e p.
+          moved availableNumber x _ p (refusals .available-at rec (now table) number clock) (available-only x));
       touching-words =
-          record {
-            any = λ κs a. tt;
-            right = λ κs a x e p. moved touchingNumber x _ p (refusals .touching (a .0) (now (a .1 .0)) (a .1 .1 .0) (a .1 .1 .1 .0)) (touching-only x);
-          };
+          answered (λ κs (rec, (table, (from, (to, _)))) x e p.
+          moved touchingNumber x _ p (refusals .touching rec (now table) from to) (touching-only x));
       touching =
-          record {
-            any = λ κs a. tt;
-            right = λ κs a x e p k.
-                p ∙
-                no-part (touchingWords (a .0) (now (a .1 .0)) (a .1 .1 .0) (a .1 .1 .1 .0)) (now (a .1 .0))
-                (λ z. k (sym (refusals .touching (a .0) (now (a .1 .0)) (a .1 .1 .0) (a .1 .1 .1 .0)) ∙ z));
-          };
-      read = record { any = λ κs a. tt; right = λ κs a x e p. reading (now (a .0)) (now (a .1 .0)) x _ (p .0) (p .1) };
+          answered (λ κs (rec, (table, (from, (to, _)))) x e p k.
+          p ∙ no-part (touchingWords rec (now table) from to) (now table) (λ z. k (sym (refusals .touching rec (now table) from to) ∙ z)));
+      read = answered (λ κs (bytes, (table, _)) x e p. reading (now bytes) (now table) x _ (p .0) (p .1));
       begins = λ κs a. tt;
-      feed = record { any = λ κs a. tt; right = λ κs a x e p. feeding (a .0) (now (a .1 .0)) (now (a .1 .1 .0)) x _ (p .0) (p .1) };
-      finish = record { any = λ κs a. tt; right = λ κs a x e p. finishing (a .0) (now (a .1 .0)) x _ (p .0) (p .1) };
+      feed = answered (λ κs (reader, (table, (piece, _))) x e p. feeding reader (now table) (now piece) x _ (p .0) (p .1));
+      finish = answered (λ κs (reader, (table, _)) x e p. finishing reader (now table) x _ (p .0) (p .1));
       write =
-          record {
-            any = λ κs a. tt;
-            right = λ κs a x e p.
-                moved writeNumber x _ (p .0) (refusals .write (a .0) (now (a .1 .0)) (length (now (a .1 .1 .0))))
-                (λ k. p .1 ∙ write-leaves _ (fileFor (a .0) (now (a .1 .0))) (now (a .1 .1 .0)) (λ z. k (ap writeNumber (p .0) ∙ z)));
-          };
+          answered (λ κs (rec, (table, (out, _))) x e p.
+          moved writeNumber x _ (p .0) (refusals .write rec (now table) (length (now out)))
+          (λ k. p .1 ∙ write-leaves _ (fileFor rec (now table)) (now out) (λ z. k (ap writeNumber (p .0) ∙ z))));
       desk-begins = λ κs a. tt;
       desk-feed = λ κs a. tt;
       desk-answer = λ κs a. tt;
       desk-whole = λ κs a. tt;
       c-open =
-          record {
-            any = λ κs a. tt;
-            right = λ κs a x e p.
-                opens-c (now (a .0)) (now (a .1 .0)) (a .1 .1 .0) (a .1 .1 .1 .0) (a .1 .1 .1 .1 .0) (a .1 .1 .1 .1 .1 .0) (a .1 .1 .1 .1 .1 .1 .0) (a .1 .1 .1 .1 .1 .1 .1 .0)
-                (a .1 .1 .1 .1 .1 .1 .1 .1 .0) x (now (e .0)) (now (e .1 .0)) (p .0) (p .1 .0) (p .1 .1);
-          };
+          answered (λ κs (rec, (table, (scale, (offset, (start, (duration, (depth, (number, (tick, _))))))))) x e p.
+          opens-c (now rec) (now table) scale offset start duration depth number tick x _ _ (p .0) (p .1 .0) (p .1 .1));
       c-append =
-          record {
-            any = λ κs a. tt;
-            right = λ κs a x e p narrow. appends-c (now (a .0)) (now (a .1 .0)) (a .1 .1 .0) (a .1 .1 .1 .0) (a .1 .1 .1 .1 .0) narrow x _ _ (p .0) (p .1 .0) (p .1 .1);
-          };
+          answered (λ κs (rec, (table, (start, (d, (n, _))))) x e p narrow.
+          appends-c (now rec) (now table) start d n narrow x _ _ (p .0) (p .1 .0) (p .1 .1));
       c-append-stamp =
-          record {
-            any = λ κs a. tt;
-            right = λ κs a x e p narrow. stamps-c (now (a .0)) (now (a .1 .0)) (a .1 .1 .0) (a .1 .1 .1 .0) (a .1 .1 .1 .1 .0) narrow x _ _ (p .0) (p .1 .0) (p .1 .1);
-          };
-      c-trim =
-          record {
-            any = λ κs a. tt;
-            right = λ κs a x e p. trims-c (now (a .0)) (now (a .1 .0)) (a .1 .1 .0) x _ _ (p .0) (p .1 .0) (p .1 .1);
-          };
-      c-verdict = record { any = λ κs a. tt; right = λ κs a x e p. verdict-c (now (a .0)) (now (a .1 .0)) (a .1 .1 .0) (now (a .1 .1 .1 .0)) x _ (p .0) (p .1) };
-      c-verdict-whole = record { any = λ κs a. tt; right = λ κs a x e p. whole-c (now (a .0)) (now (a .1 .0)) (now (a .1 .1 .0)) x _ (p .0) (p .1) };
-      c-availability = record { any = λ κs a. tt; right = λ κs a x e p. availability-c (now (a .0)) (now (a .1 .0)) (a .1 .1 .0) (now (a .1 .1 .1 .0)) x _ (p .0) (p .1) };
-      c-touching = record { any = λ κs a. tt; right = λ κs a x e p. touching-c (now (a .0)) (now (a .1 .0)) (a .1 .1 .0) (a .1 .1 .1 .0) (now (a .1 .1 .1 .1 .0)) x _ (p .0) (p .1) };
+          answered (λ κs (rec, (table, (stamp, (d, (n, _))))) x e p narrow.
+          stamps-c (now rec) (now table) stamp d n narrow x _ _ (p .0) (p .1 .0) (p .1 .1));
+      c-trim = answered (λ κs (rec, (table, (clock, _))) x e p. trims-c (now rec) (now table) clock x _ _ (p .0) (p .1 .0) (p .1 .1));
+      c-verdict = answered (λ κs (rec, (table, (clock, (out, _)))) x e p. verdict-c (now rec) (now table) clock (now out) x _ (p .0) (p .1));
+      c-verdict-whole = answered (λ κs (rec, (table, (out, _))) x e p. whole-c (now rec) (now table) (now out) x _ (p .0) (p .1));
+      c-availability =
+          answered (λ κs (rec, (table, (number, (out, _)))) x e p. availability-c (now rec) (now table) number (now out) x _ (p .0) (p .1));
+      c-touching =
+          answered (λ κs (rec, (table, (from, (to, (out, _))))) x e p. touching-c (now rec) (now table) from to (now out) x _ (p .0) (p .1));
       c-read =
-          record {
-            any = λ κs a. tt;
-            right = λ κs a x e p.
-                reads-c (now (a .0)) (now (a .1 .0)) (now (a .1 .1 .0)) (now (a .1 .1 .1 .0)) x (now (e .1 .0)) (now (e .1 .1 .0)) (now (e .1 .1 .1 .0)) (p .0) (p .1 .0)
-                (p .1 .1 .0) (p .1 .1 .1);
-          };
+          answered (λ κs (bytes, (rec, (table, (out, _)))) x e p.
+          reads-c (now bytes) (now rec) (now table) (now out) x _ _ _ (p .0) (p .1 .0) (p .1 .1 .0) (p .1 .1 .1));
       c-write =
-          record { any = λ κs a. tt; right = λ κs a x e p. write-c (now (a .0)) (now (a .1 .0)) (now (a .1 .1 .0)) (now (a .1 .1 .1 .0)) x _ _ (p .0) (p .1 .0) (p .1 .1) };
+          answered (λ κs (rec, (table, (bytes, (out, _)))) x e p.
+          write-c (now rec) (now table) (now bytes) (now out) x _ _ (p .0) (p .1 .0) (p .1 .1));
     }

@@ -3,89 +3,111 @@
 use mathlib.Core.Path.{_≡_, sym, ap, ap₂, _∙_}
 use Prim.Native.Nat.{ℕ}
 use Rattle.window.proofs.Unique.{one-passed, one-needed, one-least}
-use Rattle.laws.specs.Unique.{Entries, Inner}
+use Rattle.laws.specs.Unique.{Entry, Lending, Entries, Inner}
 
--- what equals the same is equal
+-- ---- what equals the same is equal
+
 same : {A : Type 0} {x y z : A} → x ≡ z → y ≡ z → x ≡ y
 same p q = p ∙ sym q
 
 pair : {A B : Type 0} {a c : A} {b d : B} → a ≡ c → b ≡ d → _≡_ {A = A × B} (a, b) (c, d)
 pair p q = ap₂ (λ x y. (x, y)) p q
 
-triple : {A B C : Type 0} {a d : A} {b e : B} {c f : C} → a ≡ d → b ≡ e → c ≡ f → _≡_ {A = A × B × C} (a, b, c) (d, e, f)
-triple p q r = ap₂ (λ x (y : _ × _). (x, y .0, y .1)) p (pair q r)
+module _ {A B : Type 0} {a c x : A} {b d y : B} where
+  two : (a ≡ x) × (b ≡ y) → (c ≡ x) × (d ≡ y) → _≡_ {A = A × B} (a, b) (c, d)
+  two p q = pair (same (p .0) (q .0)) (same (p .1) (q .1))
+
+  -- two that are told in the other order
+  two-turned : (b ≡ y) × (a ≡ x) → (d ≡ y) × (c ≡ x) → _≡_ {A = A × B} (a, b) (c, d)
+  two-turned p q = two (p .1, p .0) (q .1, q .0)
+
+three : {A B C : Type 0} {a d x : A} {b e y : B} {c f z : C} → (a ≡ x) × ((b ≡ y) × (c ≡ z)) → (d ≡ x) × ((e ≡ y) × (f ≡ z)) →
+    _≡_ {A = A × B × C} (a, b, c) (d, e, f)
+three p q = ap₂ (λ x (y : _ × _). (x, y .0, y .1)) (same (p .0) (q .0)) (two (p .1) (q .1))
+
+-- ---- contracts that ask nothing, and are equations
+
+module _ {K A X E : Type 0} {given : K → A → X} where
+  -- of the result
+  equation : Entry {E = E} (λ κs a. Unit {0}) (λ κs a x e. x ≡ given κs a)
+  equation = record { any = λ κs a. tt; one = λ κs a x y e f p q. same p q }
+
+  -- and of what is lent
+  lending : {B : Type 0} {lent : E → B} {told : K → A → E → Type 0} → ((κs : K) (a : A) (e f : E) → told κs a e → told κs a f → lent e ≡ lent f) →
+      Lending (λ κs a. Unit {0}) (λ κs a x e. (x ≡ given κs a) × told κs a e) lent
+  lending one = record { any = λ κs a. tt; one = λ κs a x y e f p q. same (p .0) (q .0); words = λ κs a x y e f p q. one κs a e f (p .1) (q .1) }
 
 pub entries : Entries
 entries =
     record {
-      opening = record { any = λ κs a. tt; one = λ κs a x y e f p q. same (p .0) (q .0); words = λ κs a x y e f p q. same (p .1) (q .1) };
-      append = record { any = λ κs a. tt; one = λ κs a x y e f p q. same (p .0) (q .0); words = λ κs a x y e f p q. same (p .1) (q .1) };
-      append-stamp = record { any = λ κs a. tt; one = λ κs a x y e f p q. same (p .0) (q .0); words = λ κs a x y e f p q. same (p .1) (q .1) };
-      trim = record { any = λ κs a. tt; one = λ κs a x y e f p q. same (p .0) (q .0); words = λ κs a x y e f p q. same (p .1) (q .1) };
-      zero-record = record { any = λ κs a. tt; one = λ κs a x y e f p q. same p q };
-      verdict = record { any = λ κs a. tt; one = λ κs a x y e f p q. same p q };
-      verdict-whole = record { any = λ κs a. tt; one = λ κs a x y e f p q. same p q };
-      percent = record { any = λ κs a. tt; one = λ κs a x y e f p q. same p q };
-      verdict-percent = record { any = λ κs a. tt; one = λ κs a x y e f p q. same p q };
-      percent-number = record { any = λ κs a. tt; one = λ κs a x y e f p q. same p q };
-      availability = record { any = λ κs a. tt; one = λ κs a x y e f p q. same p q };
-      available-at = record { any = λ κs a. tt; one = λ κs a x y e f p q. same p q };
-      touching-words = record { any = λ κs a. tt; one = λ κs a x y e f p q. same p q };
-      verdict-number = record { any = λ κs a. tt; one = λ κs a x y e f p q. same p q };
-      availability-number = record { any = λ κs a. tt; one = λ κs a x y e f p q. same p q };
-      available-number = record { any = λ κs a. tt; one = λ κs a x y e f p q. same p q };
-      touching-number = record { any = λ κs a. tt; one = λ κs a x y e f p q. same p q };
+      opening = lending (λ κs a e f. same);
+      append = lending (λ κs a e f. same);
+      append-stamp = lending (λ κs a e f. same);
+      trim = lending (λ κs a e f. same);
+      zero-record = equation;
+      verdict = equation;
+      verdict-whole = equation;
+      percent = equation;
+      verdict-percent = equation;
+      percent-number = equation;
+      availability = equation;
+      available-at = equation;
+      touching-words = equation;
+      verdict-number = equation;
+      availability-number = equation;
+      available-number = equation;
+      touching-number = equation;
       touching-any = λ κs a. tt;
       touching = λ κs a x y e f p q. same p q;
-      read = record { any = λ κs a. tt; one = λ κs a x y e f p q. same (p .0) (q .0); words = λ κs a x y e f p q. same (p .1) (q .1) };
-      write = record { any = λ κs a. tt; one = λ κs a x y e f p q. same (p .0) (q .0); words = λ κs a x y e f p q. same (p .1) (q .1) };
-      write-number = record { any = λ κs a. tt; one = λ κs a x y e f p q. same p q };
-      begins = record { any = λ κs a. tt; one = λ κs a x y e f p q. same p q };
-      feed = record { any = λ κs a. tt; one = λ κs a x y e f p q. same (p .0) (q .0); words = λ κs a x y e f p q. same (p .1) (q .1) };
-      finish = record { any = λ κs a. tt; one = λ κs a x y e f p q. same (p .0) (q .0); words = λ κs a x y e f p q. same (p .1) (q .1) };
-      desk-begins = record { any = λ κs a. tt; one = λ κs a x y e f p q. same p q };
-      desk-feed = record { any = λ κs a. tt; one = λ κs a x y e f p q. same (p .0) (q .0); words = λ κs a x y e f p q. same (p .1) (q .1) };
-      answer = record { any = λ κs a. tt; one = λ κs a x y e f p q. same (p .0) (q .0); words = λ κs a x y e f p q. pair (same (p .1 .1) (q .1 .1)) (same (p .1 .0) (q .1 .0)) };
-      answer-whole = record { any = λ κs a. tt; one = λ κs a x y e f p q. same (p .0) (q .0); words = λ κs a x y e f p q. pair (same (p .1 .1) (q .1 .1)) (same (p .1 .0) (q .1 .0)) };
-      c-open = record { any = λ κs a. tt; one = λ κs a x y e f p q. same (p .0) (q .0); words = λ κs a x y e f p q. pair (same (p .1 .0) (q .1 .0)) (same (p .1 .1) (q .1 .1)) };
-      c-append = record { any = λ κs a. tt; one = λ κs a x y e f p q. same (p .0) (q .0); words = λ κs a x y e f p q. pair (same (p .1 .0) (q .1 .0)) (same (p .1 .1) (q .1 .1)) };
-      c-append-stamp = record { any = λ κs a. tt; one = λ κs a x y e f p q. same (p .0) (q .0); words = λ κs a x y e f p q. pair (same (p .1 .0) (q .1 .0)) (same (p .1 .1) (q .1 .1)) };
-      c-trim = record { any = λ κs a. tt; one = λ κs a x y e f p q. same (p .0) (q .0); words = λ κs a x y e f p q. pair (same (p .1 .0) (q .1 .0)) (same (p .1 .1) (q .1 .1)) };
-      c-verdict = record { any = λ κs a. tt; one = λ κs a x y e f p q. same (p .0) (q .0); words = λ κs a x y e f p q. same (p .1) (q .1) };
-      c-verdict-whole = record { any = λ κs a. tt; one = λ κs a x y e f p q. same (p .0) (q .0); words = λ κs a x y e f p q. same (p .1) (q .1) };
-      c-availability = record { any = λ κs a. tt; one = λ κs a x y e f p q. same (p .0) (q .0); words = λ κs a x y e f p q. same (p .1) (q .1) };
-      c-touching = record { any = λ κs a. tt; one = λ κs a x y e f p q. same (p .0) (q .0); words = λ κs a x y e f p q. same (p .1) (q .1) };
-      c-read = record { any = λ κs a. tt; one = λ κs a x y e f p q. same (p .0) (q .0); words = λ κs a x y e f p q. triple (same (p .1 .0) (q .1 .0)) (same (p .1 .1 .0) (q .1 .1 .0)) (same (p .1 .1 .1) (q .1 .1 .1)) };
-      c-write = record { any = λ κs a. tt; one = λ κs a x y e f p q. same (p .0) (q .0); words = λ κs a x y e f p q. pair (same (p .1 .0) (q .1 .0)) (same (p .1 .1) (q .1 .1)) };
-      outcome-number = record { any = λ κs a. tt; one = λ κs a x y e f p q. same p q };
-      accepted = record { any = λ κs a. tt; one = λ κs a x y e f p q. same p q };
-      refused = record { any = λ κs a. tt; one = λ κs a x y e f p q. same p q };
-      agrees = record { any = λ κs a. tt; one = λ κs a x y e f p q. same p q };
-      record-held = record { any = λ κs a. tt; one = λ κs a x y e f p q. same p q };
-      counts-held = record { any = λ κs a. tt; one = λ κs a x y e f p q. same p q };
-      is-passed = record { any = λ κs a. tt; one = λ κs a x y e f p q. same p q };
-      refusal-number = record { any = λ κs a. tt; one = λ κs a x y e f p q. same p q };
-      head-held = record { any = λ κs a. tt; one = λ κs a x y e f p q. same p q };
-      head-new = record { any = λ κs a. tt; one = λ κs a x y e f p q. same p q };
-      head-fields = record { any = λ κs a. tt; one = λ κs a x y e f p q. same p q };
-      line-length = record { any = λ κs a. tt; one = λ κs a x y e f p q. same p q };
-      read-line = record { any = λ κs a. tt; one = λ κs a x y e f p q. same p q };
-      are-digits = record { any = λ κs a. tt; one = λ κs a x y e f p q. same p q };
+      read = lending (λ κs a e f. same);
+      write = lending (λ κs a e f. same);
+      write-number = equation;
+      begins = equation;
+      feed = lending (λ κs a e f. same);
+      finish = lending (λ κs a e f. same);
+      desk-begins = equation;
+      desk-feed = lending (λ κs a e f. same);
+      answer = lending (λ κs a e f. two-turned);
+      answer-whole = lending (λ κs a e f. two-turned);
+      c-open = lending (λ κs a e f. two);
+      c-append = lending (λ κs a e f. two);
+      c-append-stamp = lending (λ κs a e f. two);
+      c-trim = lending (λ κs a e f. two);
+      c-verdict = lending (λ κs a e f. same);
+      c-verdict-whole = lending (λ κs a e f. same);
+      c-availability = lending (λ κs a e f. same);
+      c-touching = lending (λ κs a e f. same);
+      c-read = lending (λ κs a e f. three);
+      c-write = lending (λ κs a e f. two);
+      outcome-number = equation;
+      accepted = equation;
+      refused = equation;
+      agrees = equation;
+      record-held = equation;
+      counts-held = equation;
+      is-passed = equation;
+      refusal-number = equation;
+      head-held = equation;
+      head-new = equation;
+      head-fields = equation;
+      line-length = equation;
+      read-line = equation;
+      are-digits = equation;
       write-digits-any = λ κs a. tt;
       write-digits = λ κs a x y e f p q. same p q;
-      tick-held = record { any = λ κs a. tt; one = λ κs a x y e f p q. same p q };
-      millis-held = record { any = λ κs a. tt; one = λ κs a x y e f p q. same p q };
-      timescale-held = record { any = λ κs a. tt; one = λ κs a x y e f p q. same p q };
-      span-held = record { any = λ κs a. tt; one = λ κs a x y e f p q. same p q };
-      number-held = record { any = λ κs a. tt; one = λ κs a x y e f p q. same p q };
-      tick-new = record { any = λ κs a. tt; one = λ κs a x y e f p q. same p q };
-      millis-new = record { any = λ κs a. tt; one = λ κs a x y e f p q. same p q };
-      timescale-new = record { any = λ κs a. tt; one = λ κs a x y e f p q. same p q };
-      span-new = record { any = λ κs a. tt; one = λ κs a x y e f p q. same p q };
-      number-new = record { any = λ κs a. tt; one = λ κs a x y e f p q. same p q };
-      grain-between = record { any = λ κs a. tt; one = λ κs a x y e f p q. same p q };
-      stamp-against = record { any = λ κs a. tt; one = λ κs a x y e f p q. same p q };
-      tick-against = record { any = λ κs a. tt; one = λ κs a x y e f p q. same p q };
+      tick-held = equation;
+      millis-held = equation;
+      timescale-held = equation;
+      span-held = equation;
+      number-held = equation;
+      tick-new = equation;
+      millis-new = equation;
+      timescale-new = equation;
+      span-new = equation;
+      number-new = equation;
+      grain-between = equation;
+      stamp-against = equation;
+      tick-against = equation;
     }
 
 pub inner : Inner

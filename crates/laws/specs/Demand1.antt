@@ -1,17 +1,15 @@
 -- Demand 1. Every entry point takes any input, and answers it with the paper's number: the lowest whose condition holds, 0 where none does
--- (the rows of Refusals, and for a file those of Lines). A refused call returns the record as it came and changes no word and no byte, with these exceptions. A refused
--- opening answers a zero record. A refused reading answers a zero record and the line, and zeroes the table. The part that a span lookup hands back
--- is empty. A verdict and an availability give their number and nothing else. Of each function this is said over the contract that the check
--- itself makes of it (Unique says what its parts are, and has the functions that never refuse). For C the lengths of record and out are judged first.
+-- (the rows of Refusals, and for a file those of Lines). A refused call returns the record as it came and changes no word and no byte,
+-- with these exceptions. A refused opening answers a zero record. A refused reading answers a zero record and the line, and zeroes the
+-- table. The part that a span lookup hands back is empty. A verdict and an availability give their number and nothing else. Of each
+-- function this is said over the contract that the check itself makes of it (Unique says what its parts are, and has the functions that
+-- never refuse). For C the lengths of record and out are judged first.
 -- Paper: Refusal numbers; What a statement must leave no room for.
 use Prim.Native.Nat.{ℕ, _≤_}
 use mathlib.Core.Path.{_≡_}
 use mathlib.Core.Bool.{Bool, true, false, not}
 use mathlib.Core.List.{List, [], _∷_}
-use borrow.Fn.Kinds.{PK, RK, In, Out, Dens, resT, endedOf}
-use contract.Lifetimes.{Lfts}
 use denote.Ref.{now}
-use denote.Triple.Clauses.{AtExit}
 use lib.Dec.{eqb}
 use lib.ListN.{length, replicate}
 use Rattle.units.specs.Limits.{largestSpan, tickOf}
@@ -36,7 +34,7 @@ use Rattle.timeline.proofs as timeline
 use Rattle.answers.proofs as answers
 use Rattle.file.proofs as file
 use Rattle.report.proofs as report
-use Rattle.flonterri.proofs as flonterri
+use Rattle.flonterri.proofs as c
 use Rattle.laws.specs.Refusals.{lowest, openRows, appendTickRows, appendStampRows, trimRows, verdictRows, wholeRows, availabilityRows, availableRows, touchingRows, writeRows}
 use Rattle.laws.specs.Lines.{judgedFile}
 use Rattle.laws.specs.Unique.{AnyInput}
@@ -112,84 +110,91 @@ pub record ReadsFromC (bytes : List ℕ) (n : ℕ) (ws ts out ws-after ts-after 
 -- ---- any input gets an answer
 
 -- a function takes any arguments, and its contract makes this of arguments, result, and what is lent when the call ends
-pub record Answers {n : ℕ} (ps : List (PK n)) (r : RK n) (asked : In n ps) (said : Out n ps r)
-    (so : (κs : Lfts n) → Dens κs ps → resT r κs .Denot → AtExit (endedOf n ps r) κs → Type 0) : Type 0 where
-  pub any : AnyInput ps r asked
-  pub right : (κs : Lfts n) (a : Dens κs ps) (x : resT r κs .Denot) (e : AtExit (endedOf n ps r) κs) → said κs a x e → so κs a x e
+pub record Answers {K A X E : Type 0} (asked : K → A → Type 0) (said : K → A → X → E → Type 0) (so : A → X → E → Type 0) : Type 0 where
+  pub any : AnyInput asked
+  pub right : (κs : K) (a : A) (x : X) (e : E) → said κs a x e → so a x e
 
+-- Of each call, `λ (rec, (table, _)) x (_, (table′, _)).` names the arguments in the order of the parameters, the result x, and those
+-- parameters that are lent to change, as they are when the call ends, with a `′`.
 pub record Demand1 : Type 0 where
-  -- opening: head fields, first tick, table
-  pub opening : Answers timeline.«open».Kinds.ps timeline.«open».Kinds.r timeline.«open».Reads.Asked timeline.«open».Reads.Learnt
-      (λ κs a x e. Changes x (now (e .1 .1 .0)) (openRows (headOf (a .0)) (tickOf (a .1 .0))) zeroRecord (now (a .1 .1 .0)))
-  -- appends: record, table, start or stamp, duration, count; a duration is one of 32 bits, as its type says
-  pub append : Answers timeline.append.Kinds.ps timeline.append.Kinds.r timeline.append.Reads.Asked timeline.append.Reads.Learnt
-      (λ κs a x e. a .1 .1 .1 .0 ≤ largestSpan →
-      Changes x (now (e .1 .0)) (appendTickRows (a .0) (now (a .1 .0)) (a .1 .1 .0) (a .1 .1 .1 .0) (a .1 .1 .1 .1 .0)) (a .0) (now (a .1 .0)))
-  pub append-stamp : Answers timeline.append_stamp.Kinds.ps timeline.append_stamp.Kinds.r timeline.append_stamp.Reads.Asked timeline.append_stamp.Reads.Learnt
-      (λ κs a x e. a .1 .1 .1 .0 ≤ largestSpan →
-      Changes x (now (e .1 .0)) (appendStampRows (a .0) (now (a .1 .0)) (a .1 .1 .0) (a .1 .1 .1 .0) (a .1 .1 .1 .1 .0)) (a .0) (now (a .1 .0)))
-  -- trim: record, table, clock
-  pub trim : Answers timeline.trim.Kinds.ps timeline.trim.Kinds.r timeline.trim.Reads.Asked timeline.trim.Reads.Learnt
-      (λ κs a x e. Changes x (now (e .1 .0)) (trimRows (a .0) (now (a .1 .0)) (a .1 .1 .0)) (a .0) (now (a .1 .0)))
-  -- the calls that look: record, table, and what is asked; no word of the table can change
-  pub verdict : Answers answers.verdicts.verdict.Kinds.ps answers.verdicts.verdict.Kinds.r answers.verdicts.verdict.Reads.Asked answers.verdicts.verdict.Reads.Learnt
-      (λ κs a x e. GivesNumber (verdictNumber x) (verdictRows (a .0) (now (a .1 .0)) (a .1 .1 .0)) (Only VerdictRefused x))
-  pub verdict-whole : Answers answers.verdicts.verdict_whole.Kinds.ps answers.verdicts.verdict_whole.Kinds.r answers.verdicts.verdict_whole.Reads.Asked answers.verdicts.verdict_whole.Reads.Learnt
-      (λ κs a x e. GivesNumber (verdictNumber x) (wholeRows (a .0) (now (a .1 .0))) (Only VerdictRefused x))
-  pub availability : Answers answers.times.availability.Kinds.ps answers.times.availability.Kinds.r answers.times.availability.Reads.Asked answers.times.availability.Reads.Learnt
-      (λ κs a x e. GivesNumber (availabilityNumber x) (availabilityRows (a .0) (now (a .1 .0)) (a .1 .1 .0)) (Only AvailabilityRefused x))
-  pub available-at : Answers answers.times.available_at.Kinds.ps answers.times.available_at.Kinds.r answers.times.available_at.Reads.Asked answers.times.available_at.Reads.Learnt
-      (λ κs a x e. GivesNumber (availableNumber x) (availableRows (a .0) (now (a .1 .0)) (a .1 .1 .0) (a .1 .1 .1 .0)) (Only AvailableRefused x))
-  pub touching-words : Answers answers.spans.touching_words.Kinds.ps answers.spans.touching_words.Kinds.r answers.spans.touching_words.Reads.Asked answers.spans.touching_words.Reads.Learnt
-      (λ κs a x e. GivesNumber (touchingNumber x) (touchingRows (a .0) (now (a .1 .0)) (a .1 .1 .0) (a .1 .1 .1 .0)) (Only TouchingRefused x))
+  pub opening : Answers timeline.«open».Reads.Asked timeline.«open».Reads.Learnt
+      (λ (fields, (first, (table, _))) x (_, (_, (table′, _))).
+      Changes x (now table′) (openRows (headOf fields) (tickOf first)) zeroRecord (now table))
+  -- a duration is one of 32 bits, as its type says
+  pub append : Answers timeline.append.Reads.Asked timeline.append.Reads.Learnt
+      (λ (rec, (table, (start, (duration, (count, _))))) x (_, (table′, _)). duration ≤ largestSpan →
+      Changes x (now table′) (appendTickRows rec (now table) start duration count) rec (now table))
+  pub append-stamp : Answers timeline.append_stamp.Reads.Asked timeline.append_stamp.Reads.Learnt
+      (λ (rec, (table, (stamp, (duration, (count, _))))) x (_, (table′, _)). duration ≤ largestSpan →
+      Changes x (now table′) (appendStampRows rec (now table) stamp duration count) rec (now table))
+  pub trim : Answers timeline.trim.Reads.Asked timeline.trim.Reads.Learnt
+      (λ (rec, (table, (clock, _))) x (_, (table′, _)). Changes x (now table′) (trimRows rec (now table) clock) rec (now table))
+  -- the calls that look: no word of the table can change
+  pub verdict : Answers answers.verdicts.verdict.Reads.Asked answers.verdicts.verdict.Reads.Learnt
+      (λ (rec, (table, (clock, _))) x _. GivesNumber (verdictNumber x) (verdictRows rec (now table) clock) (Only VerdictRefused x))
+  pub verdict-whole : Answers answers.verdicts.verdict_whole.Reads.Asked answers.verdicts.verdict_whole.Reads.Learnt
+      (λ (rec, (table, _)) x _. GivesNumber (verdictNumber x) (wholeRows rec (now table)) (Only VerdictRefused x))
+  pub availability : Answers answers.times.availability.Reads.Asked answers.times.availability.Reads.Learnt
+      (λ (rec, (table, (number, _))) x _.
+      GivesNumber (availabilityNumber x) (availabilityRows rec (now table) number) (Only AvailabilityRefused x))
+  pub available-at : Answers answers.times.available_at.Reads.Asked answers.times.available_at.Reads.Learnt
+      (λ (rec, (table, (number, (clock, _)))) x _.
+      GivesNumber (availableNumber x) (availableRows rec (now table) number clock) (Only AvailableRefused x))
+  pub touching-words : Answers answers.spans.touching_words.Reads.Asked answers.spans.touching_words.Reads.Learnt
+      (λ (rec, (table, (from, (to, _)))) x _. GivesNumber (touchingNumber x) (touchingRows rec (now table) from to) (Only TouchingRefused x))
   -- the part of the table itself gives no number: it is empty where the span lookup refuses
-  pub touching : Answers answers.spans.touching.Kinds.ps answers.spans.touching.Kinds.r answers.spans.touching.Reads.Asked answers.spans.touching.Reads.Learnt
-      (λ κs a x e. (lowest (touchingRows (a .0) (now (a .1 .0)) (a .1 .1 .0) (a .1 .1 .1 .0)) ≡ 0 → ⊥) → now x ≡ [])
-  -- reading: bytes, table
-  pub read : Answers file.read.Kinds.ps file.read.Kinds.r file.read.Reads.Asked file.read.Reads.Learnt (λ κs a x e. Reads (now (a .0)) x (now (e .1 .0)) (now (a .1 .0)))
-  -- piece by piece: reader, table, piece
-  pub begins : AnyInput file.begin.Kinds.ps file.begin.Kinds.r file.begin.Reads.Asked
-  pub feed : Answers file.feed.Kinds.ps file.feed.Kinds.r file.feed.Reads.Asked file.feed.Reads.Learnt
-      (λ κs a x e. Feeds (a .0) (now (a .1 .0)) x (now (e .1 .0)))
-  pub finish : Answers file.finish.Kinds.ps file.finish.Kinds.r file.finish.Reads.Asked file.finish.Reads.Learnt
-      (λ κs a x e. Finishes (a .0) (now (a .1 .0)) x (now (e .1 .0)))
-  -- writing: record, table, output
-  pub write : Answers file.write.Kinds.ps file.write.Kinds.r file.write.Reads.Asked file.write.Reads.Learnt
-      (λ κs a x e. GivesNumber (writeNumber x) (writeRows (a .0) (now (a .1 .0)) (length (now (a .1 .1 .0)))) (now (e .1 .1 .0) ≡ now (a .1 .1 .0)))
+  pub touching : Answers answers.spans.touching.Reads.Asked answers.spans.touching.Reads.Learnt
+      (λ (rec, (table, (from, (to, _)))) x _. (lowest (touchingRows rec (now table) from to) ≡ 0 → ⊥) → now x ≡ [])
+  -- reading, at once and piece by piece
+  pub read : Answers file.read.Reads.Asked file.read.Reads.Learnt
+      (λ (bytes, (table, _)) x (_, (table′, _)). Reads (now bytes) x (now table′) (now table))
+  pub begins : AnyInput file.begin.Reads.Asked
+  pub feed : Answers file.feed.Reads.Asked file.feed.Reads.Learnt
+      (λ (reader, (table, _)) x (_, (table′, _)). Feeds reader (now table) x (now table′))
+  pub finish : Answers file.finish.Reads.Asked file.finish.Reads.Learnt
+      (λ (reader, (table, _)) x (_, (table′, _)). Finishes reader (now table) x (now table′))
+  pub write : Answers file.write.Reads.Asked file.write.Reads.Learnt
+      (λ (rec, (table, (out, _))) x (_, (_, (out′, _))).
+      GivesNumber (writeNumber x) (writeRows rec (now table) (length (now out))) (now out′ ≡ now out))
   -- the program answers each input by a line
-  pub desk-begins : AnyInput report.begin.Kinds.ps report.begin.Kinds.r report.begin.Reads.Asked
-  pub desk-feed : AnyInput report.feed.Kinds.ps report.feed.Kinds.r report.feed.Reads.Asked
-  pub desk-answer : AnyInput report.answer.Kinds.ps report.answer.Kinds.r report.answer.Reads.Asked
-  pub desk-whole : AnyInput report.answer_whole.Kinds.ps report.answer_whole.Kinds.r report.answer_whole.Reads.Asked
-  -- C, opening: record, table, the fields of the head, first tick; refused with 1, the words of a zero record
-  pub c-open : Answers flonterri.flonterri_open.Kinds.ps flonterri.flonterri_open.Kinds.r flonterri.flonterri_open.Reads.Asked flonterri.flonterri_open.Reads.Learnt
-      (λ κs a x e. OpensFromC x (now (a .0)) (now (a .1 .0))
-      (headWith (a .1 .1 .0) (a .1 .1 .1 .0) (a .1 .1 .1 .1 .0) (a .1 .1 .1 .1 .1 .0) (a .1 .1 .1 .1 .1 .1 .0) (a .1 .1 .1 .1 .1 .1 .1 .0))
-      (a .1 .1 .1 .1 .1 .1 .1 .1 .0) (now (e .0)) (now (e .1 .0)))
-  -- C, appends and trim: record, table, and what is given
-  pub c-append : Answers flonterri.flonterri_append.Kinds.ps flonterri.flonterri_append.Kinds.r flonterri.flonterri_append.Reads.Asked flonterri.flonterri_append.Reads.Learnt
-      (λ κs a x e. a .1 .1 .1 .0 ≤ largestSpan →
-      ChangesFromC x (now (a .0)) (now (a .1 .0)) (now (e .0)) (now (e .1 .0))
-      (appendTickRows (recordOf (now (a .0))) (now (a .1 .0)) (record { 0 = a .1 .1 .0 }) (a .1 .1 .1 .0) (a .1 .1 .1 .1 .0)))
-  pub c-append-stamp : Answers flonterri.flonterri_append_stamp.Kinds.ps flonterri.flonterri_append_stamp.Kinds.r flonterri.flonterri_append_stamp.Reads.Asked flonterri.flonterri_append_stamp.Reads.Learnt
-      (λ κs a x e. a .1 .1 .1 .0 ≤ largestSpan →
-      ChangesFromC x (now (a .0)) (now (a .1 .0)) (now (e .0)) (now (e .1 .0))
-      (appendStampRows (recordOf (now (a .0))) (now (a .1 .0)) (record { 0 = a .1 .1 .0 }) (a .1 .1 .1 .0) (a .1 .1 .1 .1 .0)))
-  pub c-trim : Answers flonterri.flonterri_trim.Kinds.ps flonterri.flonterri_trim.Kinds.r flonterri.flonterri_trim.Reads.Asked flonterri.flonterri_trim.Reads.Learnt
-      (λ κs a x e. ChangesFromC x (now (a .0)) (now (a .1 .0)) (now (e .0)) (now (e .1 .0)) (trimRows (recordOf (now (a .0))) (now (a .1 .0)) (record { 0 = a .1 .1 .0 })))
-  -- C, the calls that look: record, table, what is asked, out
-  pub c-verdict : Answers flonterri.flonterri_verdict.Kinds.ps flonterri.flonterri_verdict.Kinds.r flonterri.flonterri_verdict.Reads.Asked flonterri.flonterri_verdict.Reads.Learnt
-      (λ κs a x e. TellsC x (now (a .0)) 5 (verdictRows (recordOf (now (a .0))) (now (a .1 .0)) (record { 0 = a .1 .1 .0 })) (now (a .1 .1 .1 .0)) (now (e .1 .1 .1 .0)))
-  pub c-verdict-whole : Answers flonterri.flonterri_verdict_whole.Kinds.ps flonterri.flonterri_verdict_whole.Kinds.r flonterri.flonterri_verdict_whole.Reads.Asked flonterri.flonterri_verdict_whole.Reads.Learnt
-      (λ κs a x e. TellsC x (now (a .0)) 5 (wholeRows (recordOf (now (a .0))) (now (a .1 .0))) (now (a .1 .1 .0)) (now (e .1 .1 .0)))
-  pub c-availability : Answers flonterri.flonterri_availability.Kinds.ps flonterri.flonterri_availability.Kinds.r flonterri.flonterri_availability.Reads.Asked flonterri.flonterri_availability.Reads.Learnt
-      (λ κs a x e. TellsC x (now (a .0)) 3 (availabilityRows (recordOf (now (a .0))) (now (a .1 .0)) (record { 0 = a .1 .1 .0 })) (now (a .1 .1 .1 .0)) (now (e .1 .1 .1 .0)))
-  pub c-touching : Answers flonterri.flonterri_touching.Kinds.ps flonterri.flonterri_touching.Kinds.r flonterri.flonterri_touching.Reads.Asked flonterri.flonterri_touching.Reads.Learnt
-      (λ κs a x e. TellsC x (now (a .0)) 2 (touchingRows (recordOf (now (a .0))) (now (a .1 .0)) (record { 0 = a .1 .1 .0 }) (record { 0 = a .1 .1 .1 .0 })) (now (a .1 .1 .1 .1 .0)) (now (e .1 .1 .1 .1 .0)))
-  -- C, reading: bytes, record, table, out
-  pub c-read : Answers flonterri.flonterri_read.Kinds.ps flonterri.flonterri_read.Kinds.r flonterri.flonterri_read.Reads.Asked flonterri.flonterri_read.Reads.Learnt
-      (λ κs a x e. ReadsFromC (now (a .0)) x (now (a .1 .0)) (now (a .1 .1 .0)) (now (a .1 .1 .1 .0)) (now (e .1 .0)) (now (e .1 .1 .0)) (now (e .1 .1 .1 .0)))
-  -- C, writing: record, table, bytes, out
-  pub c-write : Answers flonterri.flonterri_write.Kinds.ps flonterri.flonterri_write.Kinds.r flonterri.flonterri_write.Reads.Asked flonterri.flonterri_write.Reads.Learnt
-      (λ κs a x e. GivesNumber x (lengthRows (now (a .0)) (now (a .1 .1 .1 .0)) 1 (writeRows (recordOf (now (a .0))) (now (a .1 .0)) (length (now (a .1 .1 .0)))))
-      ((now (e .1 .1 .0) ≡ now (a .1 .1 .0)) × (now (e .1 .1 .1 .0) ≡ now (a .1 .1 .1 .0))))
+  pub desk-begins : AnyInput report.begin.Reads.Asked
+  pub desk-feed : AnyInput report.feed.Reads.Asked
+  pub desk-answer : AnyInput report.answer.Reads.Asked
+  pub desk-whole : AnyInput report.answer_whole.Reads.Asked
+  -- C, opening: refused with 1, the words of a zero record
+  pub c-open : Answers c.flonterri_open.Reads.Asked c.flonterri_open.Reads.Learnt
+      (λ (rec, (table, (timescale, (offset, (start, (duration, (depth, (number, (first, _))))))))) x (rec′, (table′, _)).
+      OpensFromC x (now rec) (now table) (headWith timescale offset start duration depth number) first (now rec′) (now table′))
+  -- C, appends and trim
+  pub c-append : Answers c.flonterri_append.Reads.Asked c.flonterri_append.Reads.Learnt
+      (λ (rec, (table, (start, (duration, (count, _))))) x (rec′, (table′, _)). duration ≤ largestSpan →
+      ChangesFromC x (now rec) (now table) (now rec′) (now table′)
+      (appendTickRows (recordOf (now rec)) (now table) (record { 0 = start }) duration count))
+  pub c-append-stamp : Answers c.flonterri_append_stamp.Reads.Asked c.flonterri_append_stamp.Reads.Learnt
+      (λ (rec, (table, (stamp, (duration, (count, _))))) x (rec′, (table′, _)). duration ≤ largestSpan →
+      ChangesFromC x (now rec) (now table) (now rec′) (now table′)
+      (appendStampRows (recordOf (now rec)) (now table) (record { 0 = stamp }) duration count))
+  pub c-trim : Answers c.flonterri_trim.Reads.Asked c.flonterri_trim.Reads.Learnt
+      (λ (rec, (table, (clock, _))) x (rec′, (table′, _)).
+      ChangesFromC x (now rec) (now table) (now rec′) (now table′) (trimRows (recordOf (now rec)) (now table) (record { 0 = clock })))
+  -- C, the calls that look
+  pub c-verdict : Answers c.flonterri_verdict.Reads.Asked c.flonterri_verdict.Reads.Learnt
+      (λ (rec, (table, (clock, (out, _)))) x (_, (_, (_, (out′, _)))).
+      TellsC x (now rec) 5 (verdictRows (recordOf (now rec)) (now table) (record { 0 = clock })) (now out) (now out′))
+  pub c-verdict-whole : Answers c.flonterri_verdict_whole.Reads.Asked c.flonterri_verdict_whole.Reads.Learnt
+      (λ (rec, (table, (out, _))) x (_, (_, (out′, _))).
+      TellsC x (now rec) 5 (wholeRows (recordOf (now rec)) (now table)) (now out) (now out′))
+  pub c-availability : Answers c.flonterri_availability.Reads.Asked c.flonterri_availability.Reads.Learnt
+      (λ (rec, (table, (number, (out, _)))) x (_, (_, (_, (out′, _)))).
+      TellsC x (now rec) 3 (availabilityRows (recordOf (now rec)) (now table) (record { 0 = number })) (now out) (now out′))
+  pub c-touching : Answers c.flonterri_touching.Reads.Asked c.flonterri_touching.Reads.Learnt
+      (λ (rec, (table, (from, (to, (out, _))))) x (_, (_, (_, (_, (out′, _))))).
+      TellsC x (now rec) 2 (touchingRows (recordOf (now rec)) (now table) (record { 0 = from }) (record { 0 = to })) (now out) (now out′))
+  -- C, reading and writing
+  pub c-read : Answers c.flonterri_read.Reads.Asked c.flonterri_read.Reads.Learnt
+      (λ (bytes, (rec, (table, (out, _)))) x (_, (rec′, (table′, (out′, _)))).
+      ReadsFromC (now bytes) x (now rec) (now table) (now out) (now rec′) (now table′) (now out′))
+  pub c-write : Answers c.flonterri_write.Reads.Asked c.flonterri_write.Reads.Learnt
+      (λ (rec, (table, (bytes, (out, _)))) x (_, (_, (bytes′, (out′, _)))).
+      GivesNumber x (lengthRows (now rec) (now out) 1 (writeRows (recordOf (now rec)) (now table) (length (now bytes))))
+      ((now bytes′ ≡ now bytes) × (now out′ ≡ now out)))
