@@ -15,9 +15,9 @@ use Rattle.window.specs.declared.Head.{Head}
 use Rattle.window.specs.declared.Reference.{Reference}
 use Rattle.window.specs.Window.{endOf, passed}
 use Rattle.runs.specs.Words.{repeated, capacity}
-use Rattle.runs.specs.Encoding.{runsFor}
+use Rattle.runs.specs.Encoding.{runsFor, needsRun}
 use Rattle.runs.specs.Ends.{lastEnd}
-use Rattle.runs.specs.Steps.{needsRun, keptWith, Storable}
+use Rattle.runs.specs.Steps.{keptWith, Storable}
 use Rattle.runs.proofs.Opening.{repeated-length}
 use Rattle.runs.proofs.EndToStart.{repeated-join, repeated-drop}
 use Rattle.runs.proofs.Tables.{used-fits, runs-for-kept}

@@ -11,7 +11,8 @@ use Rattle.window.specs.declared.Reference.{Reference}
 use Rattle.window.specs.declared.Passed.{Passed}
 use Rattle.window.specs.declared.Passed.the-variants.{All, Upto}
 use Rattle.runs.specs.Words.{capacity}
-use Rattle.runs.specs.Steps.{needsRun, passedUpto}
+use Rattle.runs.specs.Steps.{passedUpto}
+use Rattle.runs.specs.Encoding.{needsRun}
 use Rattle.agreement.specs.declared.Record.{Record}
 use Rattle.agreement.specs.Agreement.{countsHeld, agrees}
 

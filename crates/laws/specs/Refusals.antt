@@ -19,7 +19,7 @@ use Rattle.window.specs.declared.Head.{Head}
 use Rattle.window.specs.declared.Reference.{Reference}
 use Rattle.window.specs.Place.{beforeEnd}
 use Rattle.runs.specs.Words.{capacity}
-use Rattle.runs.specs.Steps.{needsRun}
+use Rattle.runs.specs.Encoding.{needsRun}
 use Rattle.agreement.specs.declared.Record.{Record}
 use Rattle.agreement.specs.Agreement.{agrees}
 use Rattle.keeping.specs.Keeping.{unspent, outcomeNumber}

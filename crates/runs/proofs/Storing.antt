@@ -15,9 +15,9 @@ use Rattle.units.specs.declared.Tick.{Tick}
 use Rattle.units.specs.declared.Span.{Span}
 use Rattle.runs.specs.declared.Run.{Run}
 use Rattle.runs.specs.Words.{runAt, lastRun, runsOf, wordsOf, capacity, runEnd, repeated, referencesOf, keptIn}
-use Rattle.runs.specs.Encoding.{encode, runsFor, tableOf, canonical}
+use Rattle.runs.specs.Encoding.{encode, runsFor, tableOf, canonical, needsRun}
 use Rattle.runs.specs.Shape.{shaped, runsShaped, followedBy}
-use Rattle.runs.specs.Steps.{withRun, needsRun, keptWith, Storable}
+use Rattle.runs.specs.Steps.{withRun, keptWith, Storable}
 use Rattle.runs.proofs.Opening.{runs-length, words-length, last-opens, referencesIn}
 use Rattle.runs.proofs.Encoded.{span-limits, Leads, leads, led, leads-too, follow, encoded, shaped-last}
 use Rattle.runs.proofs.Tables.{used-words, runs-shaped, table-is}

@@ -1,9 +1,9 @@
 -- What the inner steps that count, drop and store references ask and leave. It states no rule of the paper.
 use Prim.Native.Nat.{ℕ, suc, _+_, _*_, _≤_, _<_}
 use mathlib.Core.Path.{_≡_}
-use mathlib.Core.Bool.{Bool, true, cond, _||_, not}
+use mathlib.Core.Bool.{true, cond}
 use mathlib.Core.List.{List, [], _∷_, _++_}
-use lib.Dec.{eqb, leb}
+use lib.Dec.{leb}
 use lib.ListN.{length, take, drop}
 use Rattle.units.specs.declared.Tick.{Tick}
 use Rattle.units.specs.declared.Span.{Span}
@@ -11,7 +11,7 @@ use Rattle.units.specs.Limits.{largestTick, spanHeld}
 use Rattle.window.specs.declared.Reference.{Reference}
 use Rattle.window.specs.Window.{endOf}
 use Rattle.runs.specs.declared.Run.{Run}
-use Rattle.runs.specs.Words.{lastRun, wordsOf, runEnd, repeated, referencesOf, keptIn}
+use Rattle.runs.specs.Words.{wordsOf, runEnd, repeated, referencesOf, keptIn}
 use Rattle.runs.specs.Shape.{shaped}
 use Rattle.runs.specs.Ends.{lastEnd}
 
@@ -40,10 +40,6 @@ pub record CutAt (dropped : ℕ) (rs : List Run) (whole into : ℕ) : Type 0 whe
   pub within : whole ≤ length rs
   pub counted : length (referencesOf (take whole rs)) + into ≡ dropped
   pub inside : Inside into (drop whole rs)
-
--- whether references of so many ticks each need a run of their own: there is no run, or the last one's duration differs
-abbrev pub needsRun : ℕ → List ℕ → ℕ → Bool
-needsRun used ws d = eqb used 0 || not (eqb (lastRun used ws .span .0) d)
 
 -- what a table keeps once references are stored behind those that it keeps
 abbrev pub keptWith : ℕ → List ℕ → Tick → Span → ℕ → List Reference
