@@ -31,6 +31,7 @@ use Rattle.hex.specs.Ascii.{ascii}
 use Rattle.file.specs.declared.WriteAnswer.the-variants.{Written}
 use Rattle.file.specs.Judging.{readAnswer, readTable}
 use Rattle.file.specs.Writing.{writeAnswer, writeNumber}
+use Rattle.flonterri.specs.Words.{headWith}
 use Rattle.laws.specs.Calls.{State, opening, byTick, byStamp, trimAt, after, outcomeOf}
 use Rattle.laws.specs.Demand2.{output}
 
@@ -53,18 +54,6 @@ number n = record { 0 = n }
 
 abbrev pub grains : ℕ → Grain
 grains n = record { 0 = pos n }
-
--- timescale, offset, start, duration, depth, first number
-abbrev pub headOf : ℕ → ℕ → ℕ → ℕ → ℕ → ℕ → Head
-headOf t o s d p n =
-    record {
-      timescale = record { 0 = t };
-      offset = record { 0 = o };
-      start = record { 0 = s };
-      duration = record { 0 = d };
-      depth = record { 0 = p };
-      first = record { 0 = n };
-    }
 
 -- ---- calls
 
@@ -101,7 +90,7 @@ stateOf h a d t c u ws = record { rec = record { head = h; accepted = a; dropped
 
 -- A: a reference of 40 ticks from tick 111, then one of 10
 abbrev pub headA : Head
-headA = headOf 10 100 30_000 10_000 0 0
+headA = headWith 10 100 30_000 10_000 0 0
 
 abbrev pub openA : State
 openA = opening headA (tick 111) (full 6)
@@ -114,7 +103,7 @@ bothA = appending firstA 151 10 1
 
 -- B: five references of 4000 ticks from tick 0, the first with number 1
 abbrev pub headB : Head
-headB = headOf 1000 0 0 0 10_000 1
+headB = headWith 1000 0 0 0 10_000 1
 
 abbrev pub openB : State
 openB = opening headB (tick 0) (full 3)
@@ -144,14 +133,14 @@ abbrev pub nextC : Tick
 nextC = tick 4_294_970_000
 
 abbrev pub headC : Head
-headC = headOf 1000 0 0 0 0 0
+headC = headWith 1000 0 0 0 0 0
 
 abbrev pub openC : State
 openC = opening headC nextC (full 3)
 
 -- D: references of one tick from tick 0; the period ends inside tick 1
 abbrev pub headD : Head
-headD = headOf 3 0 0 500 0 0
+headD = headWith 3 0 0 500 0 0
 
 abbrev pub openD : State
 openD = opening headD (tick 0) (full 3)

@@ -1,4 +1,5 @@
--- An amount of grains is a product: a tick is 1000 grains and a millisecond is timescale grains. Paper: Units.
+-- What the inner steps that turn ticks and milliseconds into grains leave: a product that fits. It states no rule of the paper:
+-- `place` and `moment` of `window` do.
 use Prim.Native.Nat.{ℕ, _*_, _≤_}
 use mathlib.Core.Path.{_≡_}
 
