@@ -1,9 +1,9 @@
 -- Bytes cut into lines: whatever pieces they come in, the lines are the same; put together again they are the bytes; no line has a feed in it; and of a
 -- line the first bytes decide.
 use mathlib.Core.Path.{_≡_, refl, sym, ap, ap₂, _∙_}
-use mathlib.Core.Bool.{Bool, true, false, cond}
+use mathlib.Core.Bool.{Bool, true, false, cond, true≢false, false≢true}
 use mathlib.Core.List.{List, [], _∷_, _++_, append-assoc, append-nil}
-use Prim.Native.Nat.{ℕ, zero, suc}
+use Prim.Native.Nat.{ℕ}
 use native.Mathlib.Omega.{arith}
 use borrow.Author.Tests.{eq-eqb, ne-eqb, eqb-true, eqb-false, leb-true, leb-false}
 use lib.Dec.{eqb, leb}
@@ -11,9 +11,10 @@ use lib.ListN.{length, take, length-take}
 use lib.Seq.{take-all}
 use Rattle.frames.specs.Frames.{frameOf}
 use Rattle.frames.proofs.Lines.{too-long}
-use Rattle.file.specs.Lines.{lineFeed, linesFrom, restFrom, linesOf, restOf, Unended, AllUnended, ended, Cut}
+use Rattle.file.specs.Lines.{lineFeed, hasFeed, firstLine, behindFirst, linesFrom, restFrom, linesOf, restOf, Unended, AllUnended, ended, Cut}
 use Rattle.file.specs.Judging.{File, onFrame, takeLine, takeLines, begun, readLines}
-use Rattle.file.specs.Feeding.{longestHeld}
+use Rattle.file.specs.SoFar.{mostBytes}
+use Rattle.file.proofs.SoFar.{first-more}
 
 -- ---- one byte
 
@@ -105,7 +106,7 @@ rest-next b [] xs u = refl
 rest-next b (y ∷ ys) xs u = rest-on b y (ys ++ lineFeed ∷ xs) (u .0) ∙ rest-next (b ++ y ∷ []) ys xs (u .1)
 
 -- bytes without a feed end no line
-no-line : (b r : List ℕ) → Unended r → (linesFrom b r ≡ []) × (restFrom b r ≡ b ++ r)
+pub no-line : (b r : List ℕ) → Unended r → (linesFrom b r ≡ []) × (restFrom b r ≡ b ++ r)
 unfolding linesFrom restFrom
 no-line b [] u = (refl, sym (append-nil b))
 no-line b (y ∷ ys) u =
@@ -119,6 +120,40 @@ one-cut (l ∷ ls) r a u =
       ap linesOf again ∙ line-next [] l (ended ls ++ r) (a .0) ∙ ap (λ x. l ∷ x) (k .0),
       ap restOf again ∙ rest-next [] l (ended ls ++ r) (a .0) ∙ k .1,
     )
+
+-- ---- the next line, by the first feed
+
+module _ where
+  go-fed : (b : List ℕ) (x : ℕ) (xs : List ℕ) → ((c : List ℕ) → hasFeed xs ≡ true → linesFrom c xs ≡ (c ++ firstLine xs) ∷ linesFrom [] (behindFirst xs)) → (t : Bool) →
+      cond t true (hasFeed xs) ≡ true →
+      cond t (b ∷ linesFrom [] xs) (linesFrom (b ++ x ∷ []) xs) ≡ (b ++ cond t [] (x ∷ firstLine xs)) ∷ linesFrom [] (cond t xs (behindFirst xs))
+  go-fed b x xs f true h = ap (λ l. l ∷ linesFrom [] xs) (sym (append-nil b))
+  go-fed b x xs f false h = f (b ++ x ∷ []) h ∙ ap (λ l. l ∷ linesFrom [] (behindFirst xs)) (append-assoc b (x ∷ []) (firstLine xs))
+
+pub lines-first : (b bytes : List ℕ) → hasFeed bytes ≡ true → linesFrom b bytes ≡ (b ++ firstLine bytes) ∷ linesFrom [] (behindFirst bytes)
+unfolding linesFrom hasFeed firstLine behindFirst
+lines-first b [] h = absurd (false≢true h)
+lines-first b (x ∷ xs) h = go-fed b x xs (λ c k. lines-first c xs k) (eqb x lineFeed) h
+
+pub rest-first : (b bytes : List ℕ) → hasFeed bytes ≡ true → restFrom b bytes ≡ restFrom [] (behindFirst bytes)
+unfolding restFrom hasFeed behindFirst
+rest-first b [] h = absurd (false≢true h)
+rest-first b (x ∷ xs) h = go (eqb x lineFeed) h (λ k. rest-first (b ++ x ∷ []) xs k)
+  where
+    go : (t : Bool) → cond t true (hasFeed xs) ≡ true → (hasFeed xs ≡ true → restFrom (b ++ x ∷ []) xs ≡ restFrom [] (behindFirst xs)) →
+        cond t (restFrom [] xs) (restFrom (b ++ x ∷ []) xs) ≡ restFrom [] (cond t xs (behindFirst xs))
+    go true k f = refl
+    go false k f = f k
+
+-- bytes without a feed
+pub unfed-unended : (bytes : List ℕ) → hasFeed bytes ≡ false → Unended bytes
+unfolding hasFeed
+unfed-unended [] h = tt
+unfed-unended (x ∷ xs) h = go (eqb x lineFeed) refl h (unfed-unended xs)
+  where
+    go : (t : Bool) → eqb x lineFeed ≡ t → cond t true (hasFeed xs) ≡ false → (hasFeed xs ≡ false → Unended xs) → Unended (x ∷ xs)
+    go true k h f = absurd (true≢false h)
+    go false k h f = (eqb-false x lineFeed k, f h)
 
 pub cut : Cut
 cut =
@@ -143,43 +178,38 @@ read-append fed piece came =
 
 -- ---- of a line the first bytes are enough, since one that is longer is no frame
 
-held-frame : (line : List ℕ) → frameOf (take longestHeld line) ≡ frameOf line
-held-frame line = go (leb (length line) longestHeld) refl
+pub first-frame : (line : List ℕ) → frameOf (take mostBytes line) ≡ frameOf line
+first-frame line = go (leb (length line) mostBytes) refl
   where
-    go : (t : Bool) → leb (length line) longestHeld ≡ t → frameOf (take longestHeld line) ≡ frameOf line
-    go true e = ap frameOf (take-all longestHeld line (leb-true (length line) longestHeld e))
+    go : (t : Bool) → leb (length line) mostBytes ≡ t → frameOf (take mostBytes line) ≡ frameOf line
+    go true e = ap frameOf (take-all mostBytes line (leb-true (length line) mostBytes e))
     go false e =
-        let long = leb-false (length line) longestHeld e in
-        too-long (take longestHeld line) (omega (arith, length-take longestHeld line)) ∙ sym (too-long line (omega arith))
+        let long = leb-false (length line) mostBytes e in
+        too-long (take mostBytes line) (omega (arith, length-take mostBytes line)) ∙ sym (too-long line (omega arith))
 
-held-line : (x : File) (line : List ℕ) → takeLine x (take longestHeld line) ≡ takeLine x line
+pub first-line : (x : File) (line : List ℕ) → takeLine x (take mostBytes line) ≡ takeLine x line
 unfolding takeLine
-held-line x line = ap (onFrame (x .reading .stage) (x .reading) (x .words)) (held-frame line)
+first-line x line = ap (onFrame (x .reading .stage) (x .reading) (x .words)) (first-frame line)
 
-pub first-more : (n : ℕ) (b ys : List ℕ) → take n (take n b ++ ys) ≡ take n (b ++ ys)
-first-more zero b ys = refl
-first-more (suc n) [] ys = refl
-first-more (suc n) (x ∷ b) ys = ap (λ l. x ∷ l) (first-more n b ys)
+same-more : (b c ys : List ℕ) → take mostBytes b ≡ take mostBytes c → take mostBytes (b ++ ys) ≡ take mostBytes (c ++ ys)
+same-more b c ys e = sym (first-more mostBytes b ys) ∙ ap (λ l. take mostBytes (l ++ ys)) e ∙ first-more mostBytes c ys
 
-same-more : (b c ys : List ℕ) → take longestHeld b ≡ take longestHeld c → take longestHeld (b ++ ys) ≡ take longestHeld (c ++ ys)
-same-more b c ys e = sym (first-more longestHeld b ys) ∙ ap (λ l. take longestHeld (l ++ ys)) e ∙ first-more longestHeld c ys
-
-pub same-lines : (x : File) (b c bytes : List ℕ) → take longestHeld b ≡ take longestHeld c → takeLines x (linesFrom b bytes) ≡ takeLines x (linesFrom c bytes)
+pub same-lines : (x : File) (b c bytes : List ℕ) → take mostBytes b ≡ take mostBytes c → takeLines x (linesFrom b bytes) ≡ takeLines x (linesFrom c bytes)
 unfolding takeLines linesFrom
 same-lines x b c [] e = refl
 same-lines x b c (y ∷ ys) e = go (eqb y lineFeed) (same-lines x (b ++ y ∷ []) (c ++ y ∷ []) ys (same-more b c (y ∷ []) e))
   where
     go : (t : Bool) → takeLines x (linesFrom (b ++ y ∷ []) ys) ≡ takeLines x (linesFrom (c ++ y ∷ []) ys) →
         takeLines x (cond t (b ∷ linesFrom [] ys) (linesFrom (b ++ y ∷ []) ys)) ≡ takeLines x (cond t (c ∷ linesFrom [] ys) (linesFrom (c ++ y ∷ []) ys))
-    go true f = ap (λ z. takeLines z (linesFrom [] ys)) (sym (held-line x b) ∙ ap (takeLine x) e ∙ held-line x c)
+    go true f = ap (λ z. takeLines z (linesFrom [] ys)) (sym (first-line x b) ∙ ap (takeLine x) e ∙ first-line x c)
     go false f = f
 
-pub same-rest : (b c bytes : List ℕ) → take longestHeld b ≡ take longestHeld c → take longestHeld (restFrom b bytes) ≡ take longestHeld (restFrom c bytes)
+pub same-rest : (b c bytes : List ℕ) → take mostBytes b ≡ take mostBytes c → take mostBytes (restFrom b bytes) ≡ take mostBytes (restFrom c bytes)
 unfolding restFrom
 same-rest b c [] e = e
 same-rest b c (y ∷ ys) e = go (eqb y lineFeed) (same-rest (b ++ y ∷ []) (c ++ y ∷ []) ys (same-more b c (y ∷ []) e))
   where
-    go : (t : Bool) → take longestHeld (restFrom (b ++ y ∷ []) ys) ≡ take longestHeld (restFrom (c ++ y ∷ []) ys) →
-        take longestHeld (cond t (restFrom [] ys) (restFrom (b ++ y ∷ []) ys)) ≡ take longestHeld (cond t (restFrom [] ys) (restFrom (c ++ y ∷ []) ys))
+    go : (t : Bool) → take mostBytes (restFrom (b ++ y ∷ []) ys) ≡ take mostBytes (restFrom (c ++ y ∷ []) ys) →
+        take mostBytes (cond t (restFrom [] ys) (restFrom (b ++ y ∷ []) ys)) ≡ take mostBytes (cond t (restFrom [] ys) (restFrom (c ++ y ∷ []) ys))
     go true f = refl
     go false f = f

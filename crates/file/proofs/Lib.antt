@@ -3,12 +3,15 @@ pub mod Counts
 pub mod Steps
 pub mod SLines
 pub mod Places
+pub mod Cuts
+pub mod SoFar
 pub mod Cutting
 pub mod Sounding
-pub mod Holding
+pub mod Belonging
 pub mod Turning
 pub mod Stopping
 pub mod Pieces
+pub mod Settling
 pub mod Never
 pub mod Clocks
 pub mod Output

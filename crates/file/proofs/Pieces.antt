@@ -1,7 +1,7 @@
 -- Feeding is reading: a caller that begins a reader, feeds it pieces and finishes has, after each call, the reader and the table of the bytes fed so
 -- far, and at the end the answer and the table of reading them at once. One law for each call and each of the two, then the same over a list of pieces.
 use mathlib.Core.Path.{_≡_, refl, sym, ap, ap₂, _∙_}
-use mathlib.Core.Bool.{true, cond}
+use mathlib.Core.Bool.{true, cond, _&&_}
 use mathlib.Core.List.{List, [], _∷_, _++_, flatten, append-assoc, append-nil}
 use Prim.Native.Nat.{ℕ}
 use lib.ListN.{length, take, replicate}
@@ -11,13 +11,14 @@ use Rattle.agreement.specs.declared.refusal.Refusal.the-variants.{Disagreement}
 use Rattle.keeping.specs.declared.Outcome.the-variants as outcome
 use Rattle.keeping.specs.Keeping.{wordsBy}
 use Rattle.timeline.specs.Opening.{zeroRecord}
-use Rattle.file.specs.declared.Reading.{Reading}
+use Rattle.file.specs.declared.LineSoFar.{LineSoFar}
 use Rattle.file.specs.declared.Reader.{Reader}
 use Rattle.file.specs.Lines.{linesFrom, restFrom, restOf}
 use Rattle.file.specs.Judging.{File, takeLines, readLines, readOutcome, answeredBy, readAnswer, zeroed, readTable}
-use Rattle.file.specs.Feeding.{longestHeld, heldPart, holding, belongs, begunReader, fedFile, fedReader, fedTable, finishOutcome, finishAnswer, finishTable, readerAfter, tableAfter, Fed, fedOn, fedPieces, AnyCut}
+use Rattle.file.specs.SoFar.{mostBytes, soFar, firstBytes, proper}
+use Rattle.file.specs.Feeding.{stageHeld, belongs, begunReader, fedFile, fedReader, fedTable, finishOutcome, finishAnswer, finishTable, readerAfter, tableAfter, Fed, fedOn, fedPieces, AnyCut}
 use Rattle.file.proofs.Cutting.{rest-append, read-append, same-lines, same-rest}
-use Rattle.file.proofs.Holding.{part-held, same-holding, holding-belongs}
+use Rattle.file.proofs.SoFar.{same-line, first-bytes, is-proper}
 use Rattle.file.proofs.Sounding.{stage-is, read-sound}
 use Rattle.file.proofs.Stopping.{stop-cut}
 
@@ -35,36 +36,36 @@ fed-begun-table came = refl
 
 module _ (fed came : List ℕ) where
   pub fed-belongs : belongs (readerAfter fed came) (tableAfter fed came) ≡ true
-  unfolding readerAfter tableAfter
+  unfolding readerAfter tableAfter belongs
   fed-belongs =
       let f = readLines fed came in
-      holding-belongs (f .reading) (restOf fed) (f .words) ∙ stage-is (f .reading) (f .words) (f .reading .stage) .if (read-sound fed came .0)
+      ap (λ t. t && stageHeld (f .reading .stage) (f .reading) (f .words)) (is-proper (restOf fed)) ∙
+      stage-is (f .reading) (f .words) (f .reading .stage) .if (read-sound fed came .0)
 
-  -- what a reader holds of the rest decides as the rest does
-  first-bytes : take longestHeld (heldPart (readerAfter fed came)) ≡ take longestHeld (restOf fed)
+  -- the first bytes of the rest decide as the rest does
+  first-same : take mostBytes (firstBytes (readerAfter fed came .line)) ≡ take mostBytes (restOf fed)
   unfolding readerAfter
-  first-bytes = ap (take longestHeld) (part-held (readLines fed came .reading) (restOf fed)) ∙ take-take longestHeld longestHeld (restOf fed) (le-refl longestHeld)
+  first-same = ap (take mostBytes) (first-bytes (restOf fed)) ∙ take-take mostBytes mostBytes (restOf fed) (le-refl mostBytes)
 
   module _ (piece : List ℕ) where
     file-on : fedFile (readerAfter fed came) (tableAfter fed came) piece ≡ readLines (fed ++ piece) came
-    unfolding readerAfter tableAfter holding
+    unfolding readerAfter tableAfter
     file-on =
-        same-lines (readLines fed came) (heldPart (readerAfter fed came)) (restOf fed) piece first-bytes ∙
+        same-lines (readLines fed came) (firstBytes (readerAfter fed came .line)) (restOf fed) piece first-same ∙
         sym (read-append fed piece came)
 
-    rest-on : (r : Reading) → holding r (restFrom (heldPart (readerAfter fed came)) piece) ≡ holding r (restOf (fed ++ piece))
-    rest-on r =
-        same-holding r (restFrom (heldPart (readerAfter fed came)) piece) (restOf (fed ++ piece))
-        (same-rest (heldPart (readerAfter fed came)) (restOf fed) piece first-bytes ∙ ap (take longestHeld) (sym (rest-append [] fed piece)))
+    rest-on : soFar (restFrom (firstBytes (readerAfter fed came .line)) piece) ≡ soFar (restOf (fed ++ piece))
+    rest-on =
+        same-line (restFrom (firstBytes (readerAfter fed came .line)) piece) (restOf (fed ++ piece))
+        (same-rest (firstBytes (readerAfter fed came .line)) (restOf fed) piece first-same ∙ ap (take mostBytes) (sym (rest-append [] fed piece)))
 
     pub fed-on-reader : fedReader (readerAfter fed came) (tableAfter fed came) piece ≡ readerAfter (fed ++ piece) came
     unfolding fedReader readerAfter
     fed-on-reader =
         let x = readerAfter fed came in
         let ws = tableAfter fed came in
-        ap (λ t. cond t (holding (fedFile x ws piece .reading) (restFrom (heldPart x) piece)) x) fed-belongs ∙
-        ap (λ (f : File). holding (f .reading) (restFrom (heldPart x) piece)) file-on ∙
-        rest-on (readLines (fed ++ piece) came .reading)
+        ap (λ t. cond t (record { reading = fedFile x ws piece .reading; line = soFar (restFrom (firstBytes (x .line)) piece) }) x) fed-belongs ∙
+        ap₂ (λ (f : File) (l : LineSoFar). record { reading = f .reading; line = l }) file-on rest-on
 
     pub fed-on-table : fedTable (readerAfter fed came) (tableAfter fed came) piece ≡ tableAfter (fed ++ piece) came
     unfolding fedTable tableAfter
@@ -76,11 +77,11 @@ module _ (fed came : List ℕ) where
   -- ---- finish
 
   outcome-is : finishOutcome (readerAfter fed came) ≡ readOutcome fed came
-  unfolding readerAfter holding readOutcome
+  unfolding readerAfter soFar readOutcome
   outcome-is = stop-cut (readLines fed came .reading .stage) (length (restOf fed))
 
   pub fed-finish-answer : finishAnswer (readerAfter fed came) (tableAfter fed came) ≡ readAnswer fed came
-  unfolding finishAnswer readerAfter holding readAnswer
+  unfolding finishAnswer readerAfter readAnswer
   fed-finish-answer =
       let x = readerAfter fed came in
       ap (λ t. cond t (answeredBy (finishOutcome x) (x .reading)) (record { outcome = outcome.Refused Disagreement; rec = zeroRecord; line = 0 })) fed-belongs ∙

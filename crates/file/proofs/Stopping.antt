@@ -22,7 +22,8 @@ use Rattle.file.specs.declared.Reading.{Reading}
 use Rattle.file.specs.declared.Reader.{Reader}
 use Rattle.file.specs.declared.ReadAnswer.{ReadAnswer}
 use Rattle.file.specs.Judging.{stopOutcome, answeredBy, zeroed}
-use Rattle.file.specs.Feeding.{longestHeld, mostLines, belongs, finishOutcome, finishAnswer, finishTable}
+use Rattle.file.specs.SoFar.{mostBytes}
+use Rattle.file.specs.Feeding.{mostLines, belongs, finishOutcome, finishAnswer, finishTable}
 use Rattle.file.proofs.Stage.{the-type}
 use Rattle.file.proofs.Sounding.{sound-few}
 use Rattle.file.proofs.Turning.{belongs-sound}
@@ -47,15 +48,15 @@ stop-before Filled n k j = refl
 stop-before Ended n k j = absurd (miss (0 ∷ 1 ∷ 2 ∷ 3 ∷ 5 ∷ []) 4 tt k)
 stop-before (Refused why) n k j = absurd (miss (0 ∷ 1 ∷ 2 ∷ 3 ∷ 4 ∷ []) 5 tt j)
 
--- what is held is nothing exactly where the rest is
-pub stop-cut : (s : Stage) (n : ℕ) → stopOutcome s (min longestHeld n) ≡ stopOutcome s n
+-- the first bytes of the rest are none exactly where it is
+pub stop-cut : (s : Stage) (n : ℕ) → stopOutcome s (min mostBytes n) ≡ stopOutcome s n
 stop-cut Nothing n = refl
 stop-cut Headed n = refl
 stop-cut Open n = refl
 stop-cut Filled n = refl
 stop-cut Ended zero = refl
 stop-cut Ended (suc n) =
-    ap (λ t. cond t outcome.Accepted (outcome.Refused BadLine)) (ne-eqb (min longestHeld (suc n)) 0 (λ z. let w : ⊥ = omega arith in w)) ∙
+    ap (λ t. cond t outcome.Accepted (outcome.Refused BadLine)) (ne-eqb (min mostBytes (suc n)) 0 (λ z. let w : ⊥ = omega arith in w)) ∙
     ap (λ t. cond t outcome.Accepted (outcome.Refused BadLine)) (sym (ne-eqb (suc n) 0 (λ z. let w : ⊥ = omega arith in w)))
 stop-cut (Refused why) n = refl
 

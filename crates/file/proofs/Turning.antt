@@ -1,26 +1,28 @@
 -- The turns of the loop that feeds a piece. What is left of the piece comes to the same, from where the reader is, as the whole piece from where it was.
-use mathlib.Core.Path.{_≡_, refl, sym, ap, subst⁻¹, _∙_}
-use mathlib.Core.Bool.{Bool, true, false, not, _&&_, and-eq-true-iff}
-use mathlib.Core.List.{List, [], _∷_, _++_}
-use Prim.Native.Nat.{ℕ, suc, _+_, _≤_, _<_}
-use native.Mathlib.Numerals.{add-one}
+use mathlib.Core.Path.{_≡_, refl, sym, ap, ap₂, subst⁻¹, _∙_}
+use mathlib.Core.Bool.{Bool, true, false, not, and-eq-true-iff}
+use mathlib.Core.List.{List, [], _++_}
+use Prim.Native.Nat.{ℕ, _+_, _-_, _≤_, _<_, min}
 use native.Mathlib.Omega.{arith}
 use borrow.Author.Tests.{leb-true}
-use lib.Dec.{eqb, leb}
-use lib.ListN.{length, getD, take, drop, set, replicate, length-set, drop-of-length-le}
-use lib.Seq.{take-suc-set, take-append-le, drop-cons, drop-set-lt, length-take-le}
+use lib.Dec.{leb}
+use lib.ListN.{length, take, drop, length-drop, drop-of-length-le}
+use lib.Seq.{take-all, drop-drop}
+use mir.Syntax.{w64}
+use mir.Val.{Fits}
 use Rattle.units.proofs.Guards.{told, refused, allowed}
 use Rattle.runs.specs.Shape.{zeros}
-use Rattle.runs.proofs.Tables.{are-zeros}
-use Rattle.frames.proofs.Places.{from-here}
 use Rattle.file.specs.declared.Reading.{Reading}
+use Rattle.file.specs.declared.LineSoFar.{LineSoFar}
 use Rattle.file.specs.declared.Reader.{Reader}
-use Rattle.file.specs.Lines.{lineFeed, linesFrom, restFrom}
+use Rattle.file.specs.Lines.{hasFeed, firstLine, behindFirst, linesFrom, restFrom}
 use Rattle.file.specs.Judging.{File, takeLine, takeLines}
-use Rattle.file.specs.Feeding.{longestHeld, heldPart, holding, stageHeld, belongs, fedFile, fedReader, fedTable}
+use Rattle.file.specs.SoFar.{mostBytes, soFar, firstBytes, goesOn, proper}
+use Rattle.file.specs.Feeding.{stageHeld, belongs, fedFile, fedReader, fedTable}
 use Rattle.file.specs.Sound.{Sound}
-use Rattle.file.proofs.Cutting.{lines-ended, rest-ended, lines-on, rest-on, same-lines, same-rest}
-use Rattle.file.proofs.Holding.{is-holding}
+use Rattle.file.proofs.Cuts.{line-within, line-is, unfed, fed as has-fed, behind-is}
+use Rattle.file.proofs.SoFar.{same-line, first-bytes, goes-on, of-first, first-taken}
+use Rattle.file.proofs.Cutting.{no-line, lines-first, rest-first, unfed-unended, first-line}
 use Rattle.file.proofs.Sounding.{stage-is, line-sound}
 
 -- ---- what a reader that belongs is
@@ -35,144 +37,169 @@ module _ (x : Reader) (ws : List ℕ) (b : Bool) (k : b ≡ belongs x ws) where
   unfed-table n piece = refused b _ _ _ k n
 
 module _ (x : Reader) (ws : List ℕ) (t : belongs x ws ≡ true) where
-  parts : ((leb (x .held) longestHeld && zeros (drop (x .held) (x .line))) ≡ true) × (stageHeld (x .reading .stage) (x .reading) ws ≡ true)
+  parts : (proper (x .line) ≡ true) × (stageHeld (x .reading .stage) (x .reading) ws ≡ true)
   unfolding belongs
-  parts = and-eq-true-iff (leb (x .held) longestHeld && zeros (drop (x .held) (x .line))) (stageHeld (x .reading .stage) (x .reading) ws) .0 t
+  parts = and-eq-true-iff (proper (x .line)) (stageHeld (x .reading .stage) (x .reading) ws) .0 t
 
-  held-parts : (leb (x .held) longestHeld ≡ true) × (zeros (drop (x .held) (x .line)) ≡ true)
-  held-parts = and-eq-true-iff (leb (x .held) longestHeld) (zeros (drop (x .held) (x .line))) .0 (parts .0)
+  proper-parts : (leb (x .line .count) mostBytes ≡ true) × (zeros (drop (x .line .count) (x .line .bytes)) ≡ true)
+  proper-parts = and-eq-true-iff (leb (x .line .count) mostBytes) (zeros (drop (x .line .count) (x .line .bytes))) .0 (parts .0)
 
-  held-few : x .held ≤ longestHeld
-  held-few = leb-true (x .held) longestHeld (held-parts .0)
-
-  held-clear : zeros (drop (x .held) (x .line)) ≡ true
-  held-clear = held-parts .1
+  line-of : length (x .line .bytes) ≡ mostBytes → x .line ≡ soFar (firstBytes (x .line))
+  line-of l = of-first (x .line) l (leb-true (x .line .count) mostBytes (proper-parts .0)) (proper-parts .1)
 
   pub belongs-sound : Sound (x .reading .stage) (x .reading) ws
   belongs-sound = stage-is (x .reading) ws (x .reading .stage) .only (parts .1)
 
+-- ---- a line that is ended, judged by its first bytes
+
+module _ (r y : Reading) (t ts : List ℕ) (l : LineSoFar) (long : length (l .bytes) ≡ mostBytes) (n : ℕ) (e : n ≡ min (l .count) mostBytes) where
+  pub first-judged : record { reading = y; words = ts } ≡ takeLine (record { reading = r; words = t }) (take n (l .bytes)) →
+      record { reading = y; words = ts } ≡ takeLine (record { reading = r; words = t }) (firstBytes l)
+  first-judged k = k ∙ ap (takeLine (record { reading = r; words = t })) (first-taken l long n e)
+
 -- ---- a turn
 
-clear-behind : (l : List ℕ) (h : ℕ) → h < length l → zeros (drop h l) ≡ true → zeros (drop (h + 1) l) ≡ true
-unfolding zeros
-clear-behind l h in-line e =
-    ap (λ (n : ℕ). zeros (drop n l)) (add-one h) ∙
-    and-eq-true-iff (eqb (getD l h 0) 0) (zeros (drop (suc h) l)) .0 (ap zeros (sym (drop-cons l h 0 in-line)) ∙ e) .1
-
-pub record Turned (x : Reader) (words piece table : List ℕ) (reading : Reading) (line : List ℕ) (held i : ℕ) : Type 0 where
-  pub within : i ≤ length piece
-  pub long : length line ≡ longestHeld
-  pub short : held ≤ longestHeld
-  pub clear : zeros (drop held line) ≡ true
+-- the line so far is that of the bytes `come`
+pub record Turned (x : Reader) (words piece table : List ℕ) (reading : Reading) (line : LineSoFar) (at : ℕ) : Type 0 where
+  pub within : at ≤ length piece
+  pub come : List ℕ
+  pub so-far : line ≡ soFar come
   pub same : length table ≡ length words
   pub sound : Sound (reading .stage) reading table
-  pub file : takeLines (record { reading = reading; words = table }) (linesFrom (take held line) (drop i piece)) ≡ fedFile x words piece
-  pub rest : take longestHeld (restFrom (take held line) (drop i piece)) ≡ take longestHeld (restFrom (heldPart x) piece)
+  pub file : takeLines (record { reading = reading; words = table }) (linesFrom come (drop at piece)) ≡ fedFile x words piece
+  pub rest : take mostBytes (restFrom come (drop at piece)) ≡ take mostBytes (restFrom (firstBytes (x .line)) piece)
 
-pub turn-none : (x : Reader) (ws piece : List ℕ) (b : Bool) → b ≡ belongs x ws → not b ≡ false → length (x .line) ≡ longestHeld →
-    Turned x ws piece ws (x .reading) (x .line) (x .held) 0
+pub turn-none : (x : Reader) (ws piece : List ℕ) (b : Bool) → b ≡ belongs x ws → not b ≡ false → length (x .line .bytes) ≡ mostBytes →
+    Turned x ws piece ws (x .reading) (x .line) 0
 turn-none x ws piece b k n l =
     let t = told b _ k n in
     record {
       within = omega arith;
-      long = l;
-      short = held-few x ws t;
-      clear = held-clear x ws t;
+      come = firstBytes (x .line);
+      so-far = line-of x ws t l;
       same = refl;
       sound = belongs-sound x ws t;
       file = refl;
       rest = refl;
     }
 
-module _ (x : Reader) (ws piece t : List ℕ) (r : Reading) (l : List ℕ) (h i : ℕ) (w : Turned x ws piece t r l h i) where
-  pub turn-part : h ≤ length l
-  turn-part = omega (arith, w .long, w .short)
+-- the bytes up to the next feed, at `end`
+module _ (piece : List ℕ) (at : ℕ) (n : ℕ) (e : n ≡ length (firstLine (take (length piece - at) (drop at piece)))) where
+  left-all : take (length piece - at) (drop at piece) ≡ drop at piece
+  left-all = take-all (length piece - at) (drop at piece) (omega (arith, length-drop at piece))
 
-  module _ (there : i < length piece) where
-    pub turn-feed : getD piece i 0 ≡ lineFeed → (y : Reading) (ts : List ℕ) → length ts ≡ length t →
-        _≡_ {A = File} (record { reading = y; words = ts }) (takeLine (record { reading = r; words = t }) (take h l)) →
-        Turned x ws piece ts y (replicate longestHeld 0) 0 (i + 1)
+  found : n ≡ length (firstLine (drop at piece))
+  found = e ∙ ap (λ bs. length (firstLine bs)) left-all
+
+  pub end-within : at ≤ length piece → at + n ≤ length piece
+  end-within l = omega (arith, found, line-within (drop at piece), length-drop at piece)
+
+  pub end-fits : at < length piece → Fits w64 (length piece) → Fits w64 (at + n)
+  end-fits l f = record { fits = omega (arith, f .fits, end-within (omega arith)) }
+
+  -- less of the piece is left
+  pub ended-less : at + n < length piece → length piece - (at + n + 1) < length piece - at
+  ended-less l = omega arith
+
+  pub unended-less : at < length piece → length piece ≤ at + n → length piece - (at + n) < length piece - at
+  unended-less l m = omega arith
+
+  part-is : take (at + n - at) (drop at piece) ≡ firstLine (drop at piece)
+  part-is =
+      let count : at + n - at ≡ length (firstLine (drop at piece)) = omega (arith, found) in
+      ap (λ (k : ℕ). take k (drop at piece)) count ∙ line-is (drop at piece)
+
+  behind : at + n < length piece → (hasFeed (drop at piece) ≡ true) × (drop (at + n + 1) piece ≡ behindFirst (drop at piece))
+  behind l =
+      let there : hasFeed (drop at piece) ≡ true = has-fed (drop at piece) (λ k. let z : ⊥ = omega (arith, found, length-drop at piece) in z) in (
+        there,
+        ap (λ (k : ℕ). drop k piece) (let k : at + n + 1 ≡ at + (length (firstLine (drop at piece)) + 1) = omega (arith, found) in k) ∙
+            sym (drop-drop (length (firstLine (drop at piece)) + 1) at piece) ∙
+            behind-is (drop at piece) there,
+      )
+
+  none-behind : length piece ≤ at + n → at ≤ length piece → hasFeed (drop at piece) ≡ false
+  none-behind l m = unfed (drop at piece) (let k : length (firstLine (drop at piece)) ≡ length (drop at piece) = omega (arith, found, length-drop at piece, line-within (drop at piece)) in k)
+
+  module _ (x : Reader) (ws t : List ℕ) (r : Reading) (l : LineSoFar) (w : Turned x ws piece t r l at) (m : LineSoFar)
+      (k : m ≡ goesOn l (take (at + n - at) (drop at piece))) where
+    gone-on : m ≡ soFar (w .come ++ firstLine (drop at piece))
+    gone-on =
+        k ∙ ap₂ goesOn (w .so-far) part-is ∙ goes-on (w .come) (firstLine (drop at piece))
+
+    pub turn-ended : at + n < length piece → (z : LineSoFar) → z ≡ soFar [] → (y : Reading) (ts : List ℕ) → length ts ≡ length t →
+        record { reading = y; words = ts } ≡ takeLine (record { reading = r; words = t }) (firstBytes m) → Turned x ws piece ts y z (at + n + 1)
     unfolding takeLines
-    turn-feed e y ts s k =
-        let b = getD piece i 0 in
-        let left = drop (i + 1) piece in
+    turn-ended there z none y ts s j =
+        let left = drop at piece in
+        let fed = behind there in
+        let judged : _≡_ {A = File} (record { reading = y; words = ts }) (takeLine (record { reading = r; words = t }) (w .come ++ firstLine left)) =
+        j ∙
+        ap (takeLine (record { reading = r; words = t })) (ap firstBytes gone-on ∙ first-bytes (w .come ++ firstLine left)) ∙
+        first-line (record { reading = r; words = t }) (w .come ++ firstLine left)
+        in
         record {
           within = omega arith;
-          long = refl;
-          short = omega arith;
-          clear = are-zeros longestHeld;
+          come = [];
+          so-far = none;
           same = s ∙ w .same;
           sound =
-              subst⁻¹ (λ (f : File). Sound (f .reading .stage) (f .reading) (f .words)) k
-              (line-sound (length t) (record { reading = r; words = t }) (take h l) (w .sound, refl) .0);
+              subst⁻¹ (λ (f : File). Sound (f .reading .stage) (f .reading) (f .words)) judged
+              (line-sound (length t) (record { reading = r; words = t }) (w .come ++ firstLine left) (w .sound, refl) .0);
           file =
-              ap (λ (f : File). takeLines f (linesFrom [] left)) k ∙
-              ap (takeLines (record { reading = r; words = t })) (sym (ap (linesFrom (take h l)) (from-here piece i there) ∙ lines-ended (take h l) b left e)) ∙
+              ap₂ (λ (f : File) (bs : List ℕ). takeLines f (linesFrom [] bs)) judged (fed .1) ∙
+              ap (takeLines (record { reading = r; words = t })) (sym (lines-first (w .come) left (fed .0))) ∙
               w .file;
-          rest = ap (take longestHeld) (sym (ap (restFrom (take h l)) (from-here piece i there) ∙ rest-ended (take h l) b left e)) ∙ w .rest;
+          rest = ap (λ bs. take mostBytes (restFrom [] bs)) (fed .1) ∙ ap (take mostBytes) (sym (rest-first (w .come) left (fed .0))) ∙ w .rest;
         }
 
-    module _ (other : getD piece i 0 ≡ lineFeed → ⊥) where
-      -- a line that has the same first bytes as this one with the byte behind it
-      turn-on : (m : List ℕ) (n : ℕ) → take longestHeld (take n m) ≡ take longestHeld (take h l ++ getD piece i 0 ∷ []) →
-          length m ≡ longestHeld → n ≤ longestHeld → zeros (drop n m) ≡ true → Turned x ws piece t r m n (i + 1)
-      turn-on m n e long short clear =
-          let b = getD piece i 0 in
-          let left = drop (i + 1) piece in
-          record {
-            within = omega arith;
-            long = long;
-            short = short;
-            clear = clear;
-            same = w .same;
-            sound = w .sound;
-            file =
-                same-lines (record { reading = r; words = t }) (take n m) (take h l ++ b ∷ []) left e ∙
-                ap (takeLines (record { reading = r; words = t })) (sym (ap (linesFrom (take h l)) (from-here piece i there) ∙ lines-on (take h l) b left other)) ∙
-                w .file;
-            rest =
-                same-rest (take n m) (take h l ++ b ∷ []) left e ∙
-                ap (take longestHeld) (sym (ap (restFrom (take h l)) (from-here piece i there) ∙ rest-on (take h l) b left other)) ∙
-                w .rest;
-          }
+    pub turn-unended : length piece ≤ at + n → Turned x ws piece t r m (at + n)
+    unfolding linesFrom restFrom
+    turn-unended all =
+        let left = drop at piece in
+        let unfed : hasFeed left ≡ false = none-behind all (w .within) in
+        let bare = no-line (w .come) left (unfed-unended left unfed) in
+        let over : drop (at + n) piece ≡ [] = drop-of-length-le piece all in
+        let whole : firstLine left ≡ left =
+        sym (line-is left) ∙
+        take-all (length (firstLine left)) left (let k : length left ≤ length (firstLine left) = omega (arith, found, length-drop at piece) in k)
+        in
+        record {
+          within = end-within (w .within);
+          come = w .come ++ firstLine left;
+          so-far = gone-on;
+          same = w .same;
+          sound = w .sound;
+          file =
+              ap (λ bs. takeLines (record { reading = r; words = t }) (linesFrom (w .come ++ firstLine left) bs)) over ∙
+              ap (takeLines (record { reading = r; words = t })) (sym (bare .0)) ∙
+              w .file;
+          rest =
+              ap (λ bs. take mostBytes (restFrom (w .come ++ firstLine left) bs)) over ∙
+              ap (λ bs. take mostBytes (w .come ++ bs)) whole ∙
+              ap (take mostBytes) (sym (bare .1)) ∙
+              w .rest;
+        }
 
-      pub turn-held : h < longestHeld → Turned x ws piece t r (set l h (getD piece i 0)) (h + 1) (i + 1)
-      turn-held n =
-          let b = getD piece i 0 in
-          let in-line : h < length l = omega (arith, w .long) in
-          turn-on (set l h b) (h + 1)
-          (ap (take longestHeld) (ap (λ (m : ℕ). take m (set l h b)) (add-one h) ∙ take-suc-set l h b in-line))
-          (length-set l h b ∙ w .long)
-          (omega arith)
-          (ap zeros (drop-set-lt (h + 1) l h b (omega arith)) ∙ clear-behind l h in-line (w .clear))
+-- ---- the piece is fed
 
-      pub turn-over : longestHeld ≤ h → Turned x ws piece t r l h (i + 1)
-      turn-over n =
-          turn-on l h
-          (sym (take-append-le longestHeld (take h l) (getD piece i 0 ∷ []) (omega (arith, length-take-le h l turn-part))))
-          (w .long)
-          (w .short)
-          (w .clear)
+module _ (x : Reader) (ws piece t : List ℕ) (r : Reading) (l : LineSoFar) (at : ℕ) (w : Turned x ws piece t r l at) (done : length piece ≤ at) where
+  last-file : _≡_ {A = File} (record { reading = r; words = t }) (fedFile x ws piece)
+  unfolding takeLines linesFrom
+  last-file = ap (λ bs. takeLines (record { reading = r; words = t }) (linesFrom (w .come) bs)) (sym (drop-of-length-le piece done)) ∙ w .file
 
-  -- ---- the piece is fed
+  last-line : l ≡ soFar (restFrom (firstBytes (x .line)) piece)
+  unfolding restFrom
+  last-line =
+      w .so-far ∙
+      same-line (w .come) (restFrom (firstBytes (x .line)) piece)
+      (ap (λ bs. take mostBytes (restFrom (w .come) bs)) (sym (drop-of-length-le piece done)) ∙ w .rest)
 
-  module _ (done : length piece ≤ i) where
-    last-file : _≡_ {A = File} (record { reading = r; words = t }) (fedFile x ws piece)
-    unfolding takeLines linesFrom
-    last-file = ap (λ bs. takeLines (record { reading = r; words = t }) (linesFrom (take h l) bs)) (sym (drop-of-length-le piece done)) ∙ w .file
+  module _ (b : Bool) (k : b ≡ belongs x ws) (n : not b ≡ false) where
+    pub turned-reader : _≡_ {A = Reader} (record { reading = r; line = l }) (fedReader x ws piece)
+    unfolding fedReader
+    turned-reader = allowed b _ _ _ _ k n (ap₂ (λ (f : File) (m : LineSoFar). record { reading = f .reading; line = m }) last-file last-line)
 
-    last-rest : take longestHeld (take h l) ≡ take longestHeld (restFrom (heldPart x) piece)
-    unfolding restFrom
-    last-rest = ap (λ bs. take longestHeld (restFrom (take h l) bs)) (sym (drop-of-length-le piece done)) ∙ w .rest
-
-    module _ (b : Bool) (k : b ≡ belongs x ws) (n : not b ≡ false) where
-      pub turned-reader : _≡_ {A = Reader} (record { reading = r; line = l; held = h }) (fedReader x ws piece)
-      unfolding fedReader
-      turned-reader =
-          allowed b _ _ _ _ k n
-          (is-holding r l h (restFrom (heldPart x) piece) (w .long) (w .short) (w .clear) last-rest ∙
-          ap (λ (f : File). holding (f .reading) (restFrom (heldPart x) piece)) last-file)
-
-      pub turned-table : t ≡ fedTable x ws piece
-      unfolding fedTable
-      turned-table = allowed b _ _ _ _ k n (ap (λ (f : File). f .words) last-file)
+    pub turned-table : t ≡ fedTable x ws piece
+    unfolding fedTable
+    turned-table = allowed b _ _ _ _ k n (ap (λ (f : File). f .words) last-file)

@@ -1,43 +1,27 @@
 -- A file is read piece by piece, with its table lent at each call. After any pieces reader and table stand where reading all of their bytes comes to,
--- wherever the bytes are cut. Of a line that is not ended the reader holds the first bytes, as many as a frame can have and one more, and zeros behind
--- them. A reader and a table that do not belong together are refused with 2: a feed changes neither, and the end answers 2 at line 0 and changes no
--- word. Paper: The file (the program holds one line at a time and takes a file of any length); Record and table; Refusal numbers, 2.
-use Prim.Native.Nat.{ℕ, _+_, _-_, _^_, min}
+-- wherever the bytes are cut. A reader is how far the lines are judged, and the line so far that is not ended (SoFar). A reader and a table that do
+-- not belong together are refused with 2: a feed changes neither, and the end answers 2 at line 0 and changes no word. Paper: The file (the program
+-- holds one line at a time and takes a file of any length); Record and table; Refusal numbers, 2.
+use Prim.Native.Nat.{ℕ, _+_, _^_}
 use mathlib.Core.Path.{_≡_}
 use mathlib.Core.Bool.{Bool, true, cond, _&&_}
-use mathlib.Core.List.{List, [], _∷_, _++_, flatten as joined}
+use mathlib.Core.List.{List, [], _∷_, flatten as joined}
 use lib.Dec.{eqb, leb}
-use lib.ListN.{length, take, drop, replicate}
 use Rattle.window.specs.Limits.{headHeld}
-use Rattle.runs.specs.Shape.{zeros}
 use Rattle.agreement.specs.declared.refusal.Refusal.the-variants.{Disagreement}
 use Rattle.agreement.specs.Agreement.{agrees}
 use Rattle.keeping.specs.declared.Outcome.{Outcome}
 use Rattle.keeping.specs.declared.Outcome.the-variants as outcome
 use Rattle.keeping.specs.Keeping.{wordsBy}
 use Rattle.timeline.specs.Opening.{zeroRecord}
-use Rattle.frames.specs.Frames.{longestLine}
 use Rattle.file.specs.declared.Stage.{Stage}
 use Rattle.file.specs.declared.Stage.the-variants.{Nothing, Headed, Open, Filled, Ended, Refused}
 use Rattle.file.specs.declared.Reading.{Reading}
 use Rattle.file.specs.declared.Reader.{Reader}
 use Rattle.file.specs.declared.ReadAnswer.{ReadAnswer}
 use Rattle.file.specs.Lines.{linesFrom, restFrom, restOf}
+use Rattle.file.specs.SoFar.{soFar, firstBytes, proper}
 use Rattle.file.specs.Judging.{File, sLines, takeLines, readLines, stopOutcome, answeredBy, readAnswer, zeroed, readTable}
-
--- ---- what a reader holds
-
-abbrev pub longestHeld : ℕ
-longestHeld = longestLine + 1
-
--- the bytes that it holds of the line that is not ended
-abbrev pub heldPart : Reader → List ℕ
-heldPart x = take (x .held) (x .line)
-
--- the reader that has come to a reading and has the bytes `rest` behind the last feed
-unfoldable pub holding : Reading → List ℕ → Reader
-holding r rest =
-    record { reading = r; line = take longestHeld rest ++ replicate (longestHeld - length rest) 0; held = min longestHeld (length rest) }
 
 -- ---- which reader and table belong together
 
@@ -59,28 +43,29 @@ stageHeld Filled r ws = linesHeld r ws
 stageHeld Ended r ws = agrees (r .rec) ws && leb (r .lines) mostLines
 stageHeld (Refused why) r ws = leb (r .lines) mostLines
 
--- no more bytes are held than there is room for, those behind them are 0, and what the stage asks holds
+-- the line so far is proper, and what the stage asks holds
 unfoldable pub belongs : Reader → List ℕ → Bool
-belongs x ws = leb (x .held) longestHeld && zeros (drop (x .held) (x .line)) && stageHeld (x .reading .stage) (x .reading) ws
+belongs x ws = proper (x .line) && stageHeld (x .reading .stage) (x .reading) ws
 
 -- ---- what the calls answer
 
 unfoldable pub begunReader : Reader
-begunReader = holding (record { stage = Nothing; lines = 0; rec = zeroRecord }) []
+begunReader = record { reading = record { stage = Nothing; lines = 0; rec = zeroRecord }; line = soFar [] }
 
--- the lines that a piece ends are judged in order, the first of them with the bytes held before it
+-- the lines that a piece ends are judged in order, the first of them with the line so far before it
 abbrev pub fedFile : Reader → List ℕ → List ℕ → File
-fedFile x ws piece = takeLines (record { reading = x .reading; words = ws }) (linesFrom (heldPart x) piece)
+fedFile x ws piece = takeLines (record { reading = x .reading; words = ws }) (linesFrom (firstBytes (x .line)) piece)
 
 unfoldable pub fedReader : Reader → List ℕ → List ℕ → Reader
-fedReader x ws piece = cond (belongs x ws) (holding (fedFile x ws piece .reading) (restFrom (heldPart x) piece)) x
+fedReader x ws piece =
+    cond (belongs x ws) (record { reading = fedFile x ws piece .reading; line = soFar (restFrom (firstBytes (x .line)) piece) }) x
 
 unfoldable pub fedTable : Reader → List ℕ → List ℕ → List ℕ
 fedTable x ws piece = cond (belongs x ws) (fedFile x ws piece .words) ws
 
 -- a file that stops here
 abbrev pub finishOutcome : Reader → Outcome
-finishOutcome x = stopOutcome (x .reading .stage) (x .held)
+finishOutcome x = stopOutcome (x .reading .stage) (x .line .count)
 
 unfoldable pub finishAnswer : Reader → List ℕ → ReadAnswer
 finishAnswer x ws =
@@ -92,7 +77,7 @@ finishTable x ws = cond (belongs x ws) (wordsBy (finishOutcome x) ws (zeroed ws)
 -- ---- where reader and table stand after the bytes `fed`, in a table that came with the words `came`
 
 unfoldable pub readerAfter : List ℕ → List ℕ → Reader
-readerAfter fed came = holding (readLines fed came .reading) (restOf fed)
+readerAfter fed came = record { reading = readLines fed came .reading; line = soFar (restOf fed) }
 
 unfoldable pub tableAfter : List ℕ → List ℕ → List ℕ
 tableAfter fed came = readLines fed came .words

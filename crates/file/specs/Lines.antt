@@ -1,12 +1,30 @@
 -- A file is lines, each ended by a single line feed; what stands after the last feed is a line that is not ended. Paper: The file.
 use mathlib.Core.Path.{_≡_}
-use mathlib.Core.Bool.{cond}
+use mathlib.Core.Bool.{Bool, true, false, cond}
 use mathlib.Core.List.{List, [], _∷_, _++_}
 use Prim.Native.Nat.{ℕ}
 use lib.Dec.{eqb}
 
 abbrev pub lineFeed : ℕ
 lineFeed = 10
+
+-- ---- bytes cut at their first feed
+
+unfoldable pub hasFeed : List ℕ → Bool
+hasFeed [] = false
+hasFeed (b ∷ bs) = cond (eqb b lineFeed) true (hasFeed bs)
+
+-- the bytes before the first feed, which are all of them where there is none
+unfoldable pub firstLine : List ℕ → List ℕ
+firstLine [] = []
+firstLine (b ∷ bs) = cond (eqb b lineFeed) [] (b ∷ firstLine bs)
+
+-- and those behind it
+unfoldable pub behindFirst : List ℕ → List ℕ
+behindFirst [] = []
+behindFirst (b ∷ bs) = cond (eqb b lineFeed) bs (behindFirst bs)
+
+-- ---- bytes cut at every feed
 
 -- the lines that bytes end, where `begun` stands before them since the last feed
 unfoldable pub linesFrom : List ℕ → List ℕ → List (List ℕ)

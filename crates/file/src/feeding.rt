@@ -1,22 +1,25 @@
-// Reading a file: byte by byte up to a feed, then the line is judged. A whole file is one piece.
+// Reading a file: up to a feed the line so far grows, and then the line is judged. A whole file is one
+// piece.
 ghost use mathlib.Core.Path.{_≡_};
 ghost use Prim.Native.Nat.{_≤_};
 ghost use lib.ListN.{drop};
 ghost use Rattle.runs.specs.Shape.{zeros};
 ghost use Rattle.keeping.specs.Keeping.{wordsBy};
 ghost use Rattle.timeline.specs.Opening.{zeroRecord};
-ghost use Rattle.file.specs.Judging.{stopOutcome, answeredBy, zeroed, readAnswer, readTable};
+ghost use Rattle.file.specs.Judging.{takeLine, stopOutcome, answeredBy, zeroed, readAnswer, readTable};
+ghost use Rattle.file.specs.Sound.{Sound};
+ghost use Rattle.file.specs.SoFar.{firstBytes};
+ghost use Rattle.file.specs.Settled.{readerSettled};
 ghost use Rattle.file.specs.Feeding.{mostLines, linesHeld, stageHeld, belongs, begunReader, fedReader, fedTable, finishAnswer, finishTable};
+use crate::LineSoFar;
 use crate::ReadAnswer;
 use crate::Reader;
 use crate::Reading;
 use crate::Stage;
 use crate::judge;
+use crate::lines;
 use agreement::Refusal;
 use keeping::Outcome;
-
-// The longest frame has 82 digits.
-const LONGEST_HELD: usize = 83;
 
 // A head, an S line for each of at most 2^31 references, and an end.
 const MOST_LINES: u64 = 2_147_483_650;
@@ -31,20 +34,17 @@ pub fn begin() -> Reader
         lines: 0,
         rec,
     };
-    Reader {
-        reading,
-        line: [0u8; 83],
-        held: 0,
-    }
+    let line = LineSoFar::none();
+    Reader { reading, line }
 }
 
-// Whether all bytes of a line from a place on are 0.
-fn zeros_from(line: &[u8], from: usize) -> bool
-    ensures { λ r. ⌜ r ≡ zeros (drop from (now (line .entry))) ⌝ }
+// Whether all bytes from a place on are 0.
+fn zeros_from(bytes: &[u8], from: usize) -> bool
+    ensures { λ r. ⌜ r ≡ zeros (drop from (now (bytes .entry))) ⌝ }
 {
     let mut i = from;
-    while i < line.len() {
-        if line[i] != 0 {
+    while i < bytes.len() {
+        if bytes[i] != 0 {
             return false;
         }
         i += 1;
@@ -84,15 +84,26 @@ fn stage_held(reading: Reading, table: &[u64]) -> bool
 fn belongs(reader: Reader, table: &[u64]) -> bool
     ensures { λ r. ⌜ r ≡ belongs reader (now (table .entry)) ⌝ }
 {
-    let held = reader.held;
-    let line = reader.line;
-    if LONGEST_HELD < held {
+    let bytes = reader.line.bytes;
+    let count = reader.line.count;
+    if lines::MOST_BYTES < count {
         return false;
     }
-    if !zeros_from(&line, held) {
+    if !zeros_from(&bytes, count) {
         return false;
     }
     stage_held(reader.reading, table)
+}
+
+// Inner: callers show what holds at the reading's stage. The line is ended, and is judged by its first
+// bytes.
+fn take_so_far(reading: Reading, table: &mut [u64], line: LineSoFar) -> Reading
+    requires { ⌜ Sound (reading .stage) reading (now table) ⌝ }
+    ensures { λ r. ⌜ record { reading = r; words = now (table .exit) } ≡ takeLine (record { reading = reading; words = now (table .entry) }) (firstBytes line) ⌝ }
+{
+    let count = line.len();
+    let bytes = line.bytes;
+    judge::take_line(reading, table, &bytes[..count])
 }
 
 // Feeds one piece more. A reader that does not belong to the table comes back as it came.
@@ -105,29 +116,42 @@ pub fn feed(reader: Reader, table: &mut [u64], piece: &[u8]) -> Reader
     }
     let mut reading = reader.reading;
     let mut line = reader.line;
-    let mut held = reader.held;
-    let mut i = 0;
-    while i < piece.len() {
-        let byte = piece[i];
-        i += 1;
-        if byte == b'\n' {
-            reading = judge::take_line(reading, table, &line[..held]);
-            line = [0u8; 83];
-            held = 0;
-        } else if held < LONGEST_HELD {
-            line[held] = byte;
-            held += 1;
+    let mut at = 0;
+    while at < piece.len() {
+        let end = at + lines::line_end(&piece[at..]);
+        line = line.more(&piece[at..end]);
+        at = end;
+        if end < piece.len() {
+            at = end + 1;
+            reading = take_so_far(reading, table, line);
+            line = LineSoFar::none();
         }
     }
-    Reader {
-        reading,
-        line,
-        held,
+    Reader { reading, line }
+}
+
+// Whether the answer is settled: whatever is fed yet, `finish` answers as it would now.
+pub fn settled(reader: Reader) -> bool
+    ensures { λ r. ⌜ r ≡ readerSettled reader ⌝ }
+{
+    if reader.line.too_long() {
+        return true;
+    }
+    let reading = reader.reading;
+    let stage = reading.stage;
+    match stage {
+        Stage::Nothing => false,
+        Stage::Headed => false,
+        Stage::Open => false,
+        Stage::Filled => false,
+        Stage::Ended => 1 <= reader.line.count,
+        Stage::Refused(_) => true,
     }
 }
 
-fn stop_outcome(stage: Stage, held: usize) -> Outcome
-    ensures { λ r. ⌜ r ≡ stopOutcome stage held ⌝ }
+// By how many bytes stand after the last feed.
+fn stop_outcome(stage: Stage, after: usize) -> Outcome
+    ensures { λ r. ⌜ r ≡ stopOutcome stage after ⌝ }
 {
     let Stage::Ended = stage else {
         if let Stage::Refused(why) = stage {
@@ -135,7 +159,7 @@ fn stop_outcome(stage: Stage, held: usize) -> Outcome
         }
         return Outcome::Refused(Refusal::BadLine);
     };
-    if held == 0 {
+    if after == 0 {
         return Outcome::Accepted;
     }
     Outcome::Refused(Refusal::BadLine)
@@ -189,7 +213,7 @@ pub fn finish(reader: Reader, table: &mut [u64]) -> ReadAnswer
     }
     let reading = reader.reading;
     let stage = reading.stage;
-    let outcome = stop_outcome(stage, reader.held);
+    let outcome = stop_outcome(stage, reader.line.count);
     settle_words(outcome, table);
     answered(outcome, reading)
 }

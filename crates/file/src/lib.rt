@@ -8,12 +8,15 @@ use keeping::Outcome;
 
 mod feeding;
 mod judge;
+mod lines;
 mod writing;
 
 pub use feeding::begin;
 pub use feeding::feed;
 pub use feeding::finish;
 pub use feeding::read;
+pub use feeding::settled;
+pub use lines::line_end;
 pub use writing::write;
 
 // A t of all ones is absent.
@@ -37,14 +40,18 @@ pub struct Reading {
     pub rec: Record,
 }
 
-// A reader that is fed a file piece by piece: how far it is, and the line that is not ended yet. Of a
-// line it holds one byte more than the longest frame has, which is enough to see that it is too long;
-// the bytes behind those held are 0. `begin` makes one, and `feed` and `finish` refuse one that does
-// not belong to the table lent with it.
+// The first bytes of a line that is not ended, how many they are, and zeros behind them. One byte more
+// than the longest frame has is enough to see that a line is too long.
+pub struct LineSoFar {
+    pub bytes: [u8; 83],
+    pub count: usize,
+}
+
+// A reader that is fed a file piece by piece: how far it is, and the line that is not ended yet. `begin`
+// makes one, and `feed` and `finish` refuse one that does not belong to the table lent with it.
 pub struct Reader {
     pub reading: Reading,
-    pub line: [u8; 83],
-    pub held: usize,
+    pub line: LineSoFar,
 }
 
 // What a reading came to: the record, zero where the file is refused, and then the refused line.

@@ -33,7 +33,8 @@ use Rattle.file.specs.declared.WriteAnswer.{WriteAnswer}
 use Rattle.file.specs.declared.WriteAnswer.the-variants as written
 use Rattle.file.specs.Lines.{restFrom}
 use Rattle.file.specs.Judging.{readLines, readOutcome, answeredBy, readAnswer, readTable, zeroed}
-use Rattle.file.specs.Feeding.{heldPart, holding, belongs, fedFile, fedReader, fedTable, finishOutcome, finishAnswer, finishTable}
+use Rattle.file.specs.SoFar.{soFar, firstBytes}
+use Rattle.file.specs.Feeding.{belongs, fedFile, fedReader, fedTable, finishOutcome, finishAnswer, finishTable}
 use Rattle.file.specs.Writing.{writeNumber, outputBy}
 use Rattle.flonterri.specs.Words.{recordWords, wordsOf}
 use Rattle.flonterri.specs.Tells.{Tells, verdictTells, availabilityTells, touchingTells, writeTells}
@@ -116,7 +117,7 @@ module _ (reader : Reader) (before : List ℕ) where
   pub feeding : (piece : List ℕ) (x : Reader) (after : List ℕ) → x ≡ fedReader reader before piece → after ≡ fedTable reader before piece → Feeds reader before x after
   unfolding fedReader fedTable
   feeding piece x after e f k = (
-    e ∙ sym (passed-over (belongs reader before) (belongs reader before) (holding (fedFile reader before piece .reading) (restFrom (heldPart reader) piece)) reader refl k),
+    e ∙ sym (passed-over (belongs reader before) (belongs reader before) (record { reading = fedFile reader before piece .reading; line = soFar (restFrom (firstBytes (reader .line)) piece) }) reader refl k),
     f ∙ sym (passed-over (belongs reader before) (belongs reader before) (fedFile reader before piece .words) before refl k),
   )
 

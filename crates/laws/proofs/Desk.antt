@@ -29,24 +29,23 @@ use Rattle.frames.specs.Frames.{kindOf, lineOf, frameOf}
 use Rattle.hex.specs.Ascii.{ascii}
 use Rattle.frames.proofs.Lines.{language}
 use Rattle.file.specs.declared.ReadAnswer.{ReadAnswer}
-use Rattle.file.specs.Lines.{lineFeed}
+use Rattle.file.specs.Lines.{lineFeed, hasFeed, firstLine, behindFirst}
 use Rattle.file.specs.Judging.{readLines, readOutcome, answeredBy, readAnswer, readTable}
 use Rattle.file.proofs.Clocks.{read-clock}
 use Rattle.file.proofs.Stable.{read-agrees}
-use Rattle.report.specs.declared.Asked.{Asked}
-use Rattle.report.specs.declared.Asked.the-variants as asked
+use Rattle.report.specs.declared.ClockLine.{ClockLine}
+use Rattle.report.specs.declared.ClockLine.the-variants as asked
 use Rattle.report.specs.declared.Reply.the-variants as reply
-use Rattle.report.specs.Input.{hasFeed, firstLine, behindFirst}
 use Rattle.frames.specs.Fields.{allOnes}
 use Rattle.report.specs.Clock.{askedBy, askedOn}
 use Rattle.report.specs.Text.{PercentRight, refusedText, verdictText, textOf}
 use Rattle.report.specs.Answer.{askedIn, replyOn, replyIn, answerIn, answer}
-use Rattle.report.proofs.Cuts.{unfed-line, unfed-has, unfed-behind}
+use Rattle.file.proofs.Cuts.{unfed-line, unfed-has, unfed-behind}
 use Rattle.report.proofs.Figures.{figures}
 use Rattle.laws.specs.Demand2.{Completes, Lacks, NeedsNone, disagree, over, early, disagreeing, unknown, MayNotAsk, MayNotAskWhole}
 use Rattle.laws.specs.Demand2 as demand
 use Rattle.laws.specs.Desk as desk
-use Rattle.laws.specs.Desk.{Asks, Verdicts, at-clock, of-whole, lent, Accepts, Window, Hears, Completed, Lacked, Unneeded, Refused, no-clock, bad-line, no-end, completeLine, lackingLine, nothingLine, refusedLine, Begins, Says, DeskSays}
+use Rattle.laws.specs.Desk.{Asks, Verdicts, at-clock, of-whole, lent, Accepts, Window, ReadAs, Completed, Lacked, Unneeded, Refused, no-clock, bad-line, no-end, completeLine, lackingLine, nothingLine, refusedLine, Begins, Says, DeskSays}
 use Rattle.laws.proofs.Demand2.{demand-2}
 use Rattle.laws.proofs.DeskLines.{one-complete, complete-text, one-lacking, lacking-text, one-refused}
 
@@ -115,17 +114,17 @@ module _ (input : List ℕ) (clock : ℕ) (file : List ℕ) (a : Asks input cloc
 
   input-asks : askedIn input ≡ askedBy (frame.Clock (millis clock))
   unfolding askedIn askedOn
-  input-asks = ap₂ (λ t (f : Frame). cond t (askedBy f) asked.Unheard) input-fed line-frame
+  input-asks = ap₂ (λ t (f : Frame). cond t (askedBy f) asked.Unended) input-fed line-frame
 
   -- the answer, by what the clock asks
-  in-table : (came : List ℕ) (what : Asked) → askedBy (frame.Clock (millis clock)) ≡ what →
+  in-table : (came : List ℕ) (what : ClockLine) → askedBy (frame.Clock (millis clock)) ≡ what →
       (x : ReadAnswer) → readAnswer file came ≡ x → (ws : List ℕ) → readTable file came ≡ ws → answerIn came input ≡ textOf (replyOn what x ws)
   unfolding replyIn
   in-table came what e x f ws g =
-      ap₂ (λ (y : Asked) (bytes : List ℕ). textOf (replyOn y (readAnswer bytes came) (readTable bytes came))) (input-asks ∙ e) input-behind ∙
+      ap₂ (λ (y : ClockLine) (bytes : List ℕ). textOf (replyOn y (readAnswer bytes came) (readTable bytes came))) (input-asks ∙ e) input-behind ∙
       ap₂ (λ (y : ReadAnswer) (vs : List ℕ). textOf (replyOn what y vs)) f g
 
-  by-asked : (what : Asked) → askedBy (frame.Clock (millis clock)) ≡ what →
+  by-asked : (what : ClockLine) → askedBy (frame.Clock (millis clock)) ≡ what →
       (x : ReadAnswer) → readAnswer file lent ≡ x → (ws : List ℕ) → readTable file lent ≡ ws → answer input ≡ textOf (replyOn what x ws)
   by-asked what e x f ws g = in-lent input ∙ in-table lent what e x f ws g
 
@@ -267,14 +266,14 @@ module _ (file : List ℕ) (rec : Record) (ws : List ℕ) (x : Accepts file rec 
           percent = figures .percent-whole rec ws;
         }
 
--- ---- an input that is heard
+-- ---- an input that is read
 
 record Judged (input : List ℕ) (rec : Record) (ws : List ℕ) (w : Stretch) : Type 0 where
   v : Verdict
   judges : Judges v rec ws w
   told : answer input ≡ verdictText v
 
-judged : (input : List ℕ) (rec : Record) (ws : List ℕ) (w : Stretch) → Hears input rec ws w → Judged input rec ws w
+judged : (input : List ℕ) (rec : Record) (ws : List ℕ) (w : Stretch) → ReadAs input rec ws w → Judged input rec ws w
 unfolding replyOn textOf
 judged input rec ws w h = go w (h .window)
   where
@@ -301,19 +300,19 @@ judged input rec ws w h = go w (h .window)
 module _ (input : List ℕ) where
   tell-complete : (n : ℕ) → Completed input n → answer input ≡ completeLine n
   tell-complete n c =
-      let j = judged input (c .rec) (c .ws) (c .w) (c .hears) in
+      let j = judged input (c .rec) (c .ws) (c .w) (c .read) in
       let e = j .judges .complete n .if (c .completes) in
       j .told ∙ ap verdictText e ∙ complete-text n (subst PercentRight e (j .judges .percent))
 
   tell-lacking : (n m k : ℕ) → Lacked input n m k → answer input ≡ lackingLine n m k
   tell-lacking n m k c =
-      let j = judged input (c .rec) (c .ws) (c .w) (c .hears) in
+      let j = judged input (c .rec) (c .ws) (c .w) (c .read) in
       let e = j .judges .lacking n m (record { 0 = k }) .if (c .lacks) in
       j .told ∙ ap verdictText e ∙ lacking-text n m (record { 0 = k }) (subst PercentRight e (j .judges .percent))
 
   tell-nothing : Unneeded input → answer input ≡ nothingLine
   unfolding verdictText
-  tell-nothing c = let j = judged input (c .rec) (c .ws) (c .w) (c .hears) in j .told ∙ ap verdictText (j .judges .nothing .if (c .none))
+  tell-nothing c = let j = judged input (c .rec) (c .ws) (c .w) (c .read) in j .told ∙ ap verdictText (j .judges .nothing .if (c .none))
 
   -- an input that does not begin with a clock line
   unasked : (came : List ℕ) → ((clock : ℕ) (file : List ℕ) → Asks input clock file → ⊥) → replyIn came input ≡ reply.Refused refusal.BadLine 0
@@ -321,7 +320,7 @@ module _ (input : List ℕ) where
   unasked came n = go (hasFeed input) refl (frameOf (firstLine input)) refl
     where
       go : (t : Bool) → hasFeed input ≡ t → (f : Frame) → frameOf (firstLine input) ≡ f →
-          replyOn (cond t (askedBy f) asked.Unheard) (readAnswer (behindFirst input) came) (readTable (behindFirst input) came) ≡
+          replyOn (cond t (askedBy f) asked.Unended) (readAnswer (behindFirst input) came) (readTable (behindFirst input) came) ≡
           reply.Refused refusal.BadLine 0
       go false e f g = refl
       go true e (frame.Head h) g = refl
@@ -350,18 +349,18 @@ module _ (input : List ℕ) where
   say-refused : (number line : ℕ) → Refused input number line → Says input (answer input)
   say-refused number line r = subst⁻¹ (Says input) (tell-refused input number line r) (desk.refused number line r)
 
-  say-heard : (rec : Record) (ws : List ℕ) (w : Stretch) → Hears input rec ws w → Says input (answer input)
-  say-heard rec ws w h = let j = judged input rec ws w h in go (j .v) refl
+  say-told : (rec : Record) (ws : List ℕ) (w : Stretch) → ReadAs input rec ws w → Says input (answer input)
+  say-told rec ws w h = let j = judged input rec ws w h in go (j .v) refl
     where
       go : (v : Verdict) → judged input rec ws w h .v ≡ v → Says input (answer input)
       go verdict.Nothing e =
-          let c : Unneeded input = record { rec = rec; ws = ws; w = w; hears = h; none = judged input rec ws w h .judges .nothing .only e } in
+          let c : Unneeded input = record { rec = rec; ws = ws; w = w; read = h; none = judged input rec ws w h .judges .nothing .only e } in
           subst⁻¹ (Says input) (tell-nothing input c) (desk.nothing c)
       go (verdict.Complete n) e =
-          let c : Completed input n = record { rec = rec; ws = ws; w = w; hears = h; completes = judged input rec ws w h .judges .complete n .only e } in
+          let c : Completed input n = record { rec = rec; ws = ws; w = w; read = h; completes = judged input rec ws w h .judges .complete n .only e } in
           subst⁻¹ (Says input) (tell-complete input n c) (desk.complete n c)
       go (verdict.Lacking n m k) e =
-          let c : Lacked input n m (k .0) = record { rec = rec; ws = ws; w = w; hears = h; lacks = judged input rec ws w h .judges .lacking n m k .only e } in
+          let c : Lacked input n m (k .0) = record { rec = rec; ws = ws; w = w; read = h; lacks = judged input rec ws w h .judges .lacking n m k .only e } in
           subst⁻¹ (Says input) (tell-lacking input n m (k .0) c) (desk.lacking n m (k .0) c)
       go (verdict.Refused why) e = absurd (judged input rec ws w h .judges .never why e)
 
@@ -371,7 +370,7 @@ module _ (input : List ℕ) where
       where
         accepted : (rec : Record) → Accepts file rec (readTable file lent) → Verdicts clock → Says input (answer input)
         accepted rec x (at-clock l) =
-            say-heard rec (readTable file lent) (windowAt (rec .head) clock)
+            say-told rec (readTable file lent) (windowAt (rec .head) clock)
             (record { clock = clock; file = file; asks = a; accepts = x; window = desk.at l })
         accepted rec x (of-whole e) = by-end (eqb (rec .head .duration .0) 0) refl
           where
@@ -381,7 +380,7 @@ module _ (input : List ℕ) where
                 (no-end file rec (readTable file lent) (subst (λ (c : ℕ). Asks input c file) e a) x (eqb-true (rec .head .duration .0) 0 d))
             by-end false d =
                 let some : rec .head .duration .0 ≡ 0 → ⊥ = eqb-false (rec .head .duration .0) 0 d in
-                say-heard rec (readTable file lent) (wholePeriod (rec .head))
+                say-told rec (readTable file lent) (wholePeriod (rec .head))
                 (record { clock = clock; file = file; asks = a; accepts = x; window = desk.whole e (omega arith) })
 
         go : Reads (readAnswer file lent) → Says input (answer input)

@@ -54,7 +54,7 @@ pub data Window (clock : ℕ) (rec : Record) : Stretch → Type 0 where
   whole : clock ≡ allOnes → 1 ≤ rec .head .duration .0 → Window clock rec (wholePeriod (rec .head))
 
 -- the clock line asks, the file is accepted, and what is asked about it can be told
-pub record Hears (input : List ℕ) (rec : Record) (ws : List ℕ) (w : Stretch) : Type 0 where
+pub record ReadAs (input : List ℕ) (rec : Record) (ws : List ℕ) (w : Stretch) : Type 0 where
   pub clock : ℕ
   pub file : List ℕ
   pub asks : Asks input clock file
@@ -68,7 +68,7 @@ pub record Completed (input : List ℕ) (n : ℕ) : Type 0 where
   pub rec : Record
   pub ws : List ℕ
   pub w : Stretch
-  pub hears : Hears input rec ws w
+  pub read : ReadAs input rec ws w
   pub completes : Completes (rec .head) w (kept rec ws) n
 
 -- n ticks are needed, m of them lie in a kept reference, and k is the lowest that lies in none
@@ -76,7 +76,7 @@ pub record Lacked (input : List ℕ) (n m k : ℕ) : Type 0 where
   pub rec : Record
   pub ws : List ℕ
   pub w : Stretch
-  pub hears : Hears input rec ws w
+  pub read : ReadAs input rec ws w
   pub lacks : Lacks (rec .head) w (kept rec ws) n m k
 
 -- no tick is needed
@@ -84,7 +84,7 @@ pub record Unneeded (input : List ℕ) : Type 0 where
   pub rec : Record
   pub ws : List ℕ
   pub w : Stretch
-  pub hears : Hears input rec ws w
+  pub read : ReadAs input rec ws w
   pub none : NeedsNone (rec .head) w
 
 -- the input is refused, with a number and a line

@@ -121,12 +121,19 @@ pub record Entries : Type 0 where
   pub read : Lending file.read.Reads.Asked file.read.Reads.Learnt table
   pub write : Lending file.write.Reads.Asked file.write.Reads.Learnt out
   pub write-number : Entry file.WriteAnswer.number.Reads.Asked file.WriteAnswer.number.Reads.Learnt
+  pub line-end : Entry file.line_end.Reads.Asked file.line_end.Reads.Learnt
+  pub line-none : Entry file.LineSoFar.none.Reads.Asked file.LineSoFar.none.Reads.Learnt
+  pub line-len : Entry file.LineSoFar.len.Reads.Asked file.LineSoFar.len.Reads.Learnt
+  pub line-more : Entry file.LineSoFar.more.Reads.Asked file.LineSoFar.more.Reads.Learnt
+  pub line-too-long : Entry file.LineSoFar.too_long.Reads.Asked file.LineSoFar.too_long.Reads.Learnt
   pub begins : Entry file.begin.Reads.Asked file.begin.Reads.Learnt
   pub feed : Lending file.feed.Reads.Asked file.feed.Reads.Learnt table
+  pub settled : Entry file.settled.Reads.Asked file.settled.Reads.Learnt
   pub finish : Lending file.finish.Reads.Asked file.finish.Reads.Learnt table
   -- report
   pub desk-begins : Entry report.begin.Reads.Asked report.begin.Reads.Learnt
   pub desk-feed : Lending report.feed.Reads.Asked report.feed.Reads.Learnt table
+  pub desk-settled : Entry report.settled.Reads.Asked report.settled.Reads.Learnt
   pub answer : Lending report.answer.Reads.Asked report.answer.Reads.Learnt table-and-out
   pub answer-whole : Lending report.answer_whole.Reads.Asked report.answer_whole.Reads.Learnt table-and-out
   -- flonterri, for C

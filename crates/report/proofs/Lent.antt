@@ -22,9 +22,8 @@ use Rattle.file.specs.declared.Stage.{Stage}
 use Rattle.file.specs.declared.Stage.the-variants.{Nothing, Headed, Open, Filled, Ended, Refused}
 use Rattle.file.specs.declared.Reading.{Reading}
 use Rattle.file.specs.declared.ReadAnswer.{ReadAnswer}
-use Rattle.file.specs.Lines.{linesOf, restOf}
+use Rattle.file.specs.Lines.{behindFirst, linesOf, restOf}
 use Rattle.file.specs.Judging.{File, refused, taken, firstTick, takeS, openedBy, takeFirstS, takeHead, onNothing, onHeaded, onFrame, takeLine, takeLines, begun, readLines, stopOutcome, readOutcome, answeredBy, readAnswer, zeroed, readTable}
-use Rattle.report.specs.Input.{behindFirst}
 use Rattle.report.specs.Answer.{askedIn, replyOn, replyIn}
 
 -- from the first S line on the words are the same; before it, and once a line is refused, only their number is

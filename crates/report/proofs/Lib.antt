@@ -6,9 +6,9 @@ pub mod Shares
 pub mod Figures
 pub mod Shown
 pub mod Clocks
-pub mod Cuts
-pub mod Heard
+pub mod Desks
 pub mod Told
 pub mod Lent
 pub mod Pieces
+pub mod Settling
 pub mod Turns

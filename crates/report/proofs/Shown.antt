@@ -43,9 +43,9 @@ use Rattle.frames.specs.Fields.{fieldValues}
 use Rattle.frames.specs.Frames.{frameAs, frameOf}
 use Rattle.hex.specs.Ascii.{ascii}
 use Rattle.frames.specs.Worked.{fieldsB}
-use Rattle.report.specs.declared.Asked.{Asked}
-use Rattle.report.specs.declared.Asked.the-variants.{At, Whole}
-use Rattle.report.specs.Input.{hasFeed, firstLine, behindFirst}
+use Rattle.report.specs.declared.ClockLine.{ClockLine}
+use Rattle.report.specs.declared.ClockLine.the-variants.{At, Whole}
+use Rattle.file.specs.Lines.{hasFeed, firstLine, behindFirst}
 use Rattle.report.specs.Clock.{askedOn}
 use Rattle.report.specs.Answer.{askedIn, replyOn, replyIn, tableLength, answer}
 use Rattle.report.specs.Text.{decimalBy, decimal, shareText, refusedText, verdictText, textOf}
@@ -131,11 +131,11 @@ wholeB = ap (λ s. cond s (verdict.Refused EndUnknown) (verdict.Refused Disagree
 
 -- ---- the answers to it
 
-module _ (input : List ℕ) (file : behindFirst input ≡ fileB) (a : Asked) (e : askedIn input ≡ a) where
+module _ (input : List ℕ) (file : behindFirst input ≡ fileB) (a : ClockLine) (e : askedIn input ≡ a) where
   of-file : answer input ≡ textOf (replyOn a (record { outcome = Accepted; rec = recordB; line = 0 }) tableWide)
   unfolding replyIn
   of-file =
-      ap₂ (λ (x : Asked) (f : List ℕ). textOf (replyOn x (readAnswer f (replicate tableLength 0)) (readTable f (replicate tableLength 0)))) e file ∙
+      ap₂ (λ (x : ClockLine) (f : List ℕ). textOf (replyOn x (readAnswer f (replicate tableLength 0)) (readTable f (replicate tableLength 0)))) e file ∙
       ap₂ (λ (x : ReadAnswer) (ws : List ℕ). textOf (replyOn a x ws)) readB wordsB
 
 at-clock : (input : List ℕ) → behindFirst input ≡ fileB → (c : Millis) → askedIn input ≡ At c → (v : Verdict) → verdictAt recordB tableWide (record { 0 = c .0 }) ≡ v → answer input ≡ verdictText v

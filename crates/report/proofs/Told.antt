@@ -14,15 +14,15 @@ use Rattle.answers.specs.declared.Verdict.{Verdict}
 use Rattle.answers.specs.Judgement.{verdictAt, verdictWhole}
 use Rattle.file.specs.declared.ReadAnswer.{ReadAnswer}
 use Rattle.file.specs.Feeding.{finishAnswer, finishTable}
-use Rattle.report.specs.declared.Asked.{Asked}
-use Rattle.report.specs.declared.Asked.the-variants as asked
+use Rattle.report.specs.declared.ClockLine.{ClockLine}
+use Rattle.report.specs.declared.ClockLine.the-variants as asked
 use Rattle.report.specs.declared.Desk.{Desk}
 use Rattle.report.specs.declared.Reply.{Reply}
 use Rattle.report.specs.declared.Reply.the-variants.{Judged, Refused}
 use Rattle.report.specs.Placing.{Put}
 use Rattle.report.specs.Text.{textOf}
-use Rattle.report.specs.Answer.{listens, replyRead, replyOn}
-use Rattle.report.specs.Hearing.{over, replyAt, replyWhole, replyBy, tableBy}
+use Rattle.report.specs.Answer.{fileRead, replyRead, replyOn}
+use Rattle.report.specs.Feeding.{over, replyAt, replyWhole, replyBy, tableBy}
 use Rattle.report.proofs.Placed.{front-count, front-bytes}
 
 -- ---- what was read
@@ -52,22 +52,22 @@ module _ (d : Desk) (ws : List ℕ) (read : ReadAnswer) (e : read ≡ finishAnsw
 
 -- ---- by what is asked
 
-module _ (d : Desk) (ws : List ℕ) (a : Asked) (e : d .asked ≡ a) where
+module _ (d : Desk) (ws : List ℕ) (a : ClockLine) (e : d .asked ≡ a) where
   reply-by : replyOn a (finishAnswer (d .reader) ws) (finishTable (d .reader) ws) ≡ replyBy d ws
   unfolding replyBy
-  reply-by = ap (λ (x : Asked). replyOn x (finishAnswer (d .reader) ws) (finishTable (d .reader) ws)) (sym e)
+  reply-by = ap (λ (x : ClockLine). replyOn x (finishAnswer (d .reader) ws) (finishTable (d .reader) ws)) (sym e)
 
-  table-by : cond (listens a) (finishTable (d .reader) ws) ws ≡ tableBy d ws
+  table-by : cond (fileRead a) (finishTable (d .reader) ws) ws ≡ tableBy d ws
   unfolding tableBy
-  table-by = ap (λ (x : Asked). cond (listens x) (finishTable (d .reader) ws) ws) (sym e)
+  table-by = ap (λ (x : ClockLine). cond (fileRead x) (finishTable (d .reader) ws) ws) (sym e)
 
 module _ (d : Desk) (ws : List ℕ) where
-  pub reply-unheard : d .asked ≡ asked.Unheard → Refused BadLine 0 ≡ replyBy d ws
+  pub reply-unended : d .asked ≡ asked.Unended → Refused BadLine 0 ≡ replyBy d ws
   unfolding replyOn
-  reply-unheard e = reply-by d ws asked.Unheard e
+  reply-unended e = reply-by d ws asked.Unended e
 
-  pub table-unheard : d .asked ≡ asked.Unheard → ws ≡ tableBy d ws
-  table-unheard e = table-by d ws asked.Unheard e
+  pub table-unended : d .asked ≡ asked.Unended → ws ≡ tableBy d ws
+  table-unended e = table-by d ws asked.Unended e
 
   pub reply-refused : (why : Refusal) → d .asked ≡ asked.Refused why → Refused why 0 ≡ replyBy d ws
   unfolding replyOn

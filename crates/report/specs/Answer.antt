@@ -1,6 +1,7 @@
--- THE DEFINITION of what the program answers. The clock line is judged first, its limit included, then the file, then the verdict on what the file
--- was read into, without trimming. A clock line that is missing or not ended is refused with 16, and its refusals stand at line 0; the file's lines
--- are numbered from 1. The table has 3,072 words. Paper: The file (the program); Refusal numbers, and the order below the table.
+-- THE DEFINITION of what the program answers. The input is cut at its first line feed: before it stands the clock line, behind it the file. The clock
+-- line is judged first, its limit included, then the file, then the verdict on what the file was read into, without trimming. A clock line that is
+-- missing or not ended is refused with 16, and its refusals stand at line 0; the file's lines are numbered from 1. The table has 3,072 words. Paper: The
+-- file (the program reads a clock line, then a file); Refusal numbers, and the order below the table.
 use Prim.Native.Nat.{ℕ}
 use mathlib.Core.Bool.{Bool, true, false, cond}
 use mathlib.Core.List.{List}
@@ -11,25 +12,25 @@ use Rattle.keeping.specs.declared.Outcome.the-variants as outcome
 use Rattle.answers.specs.declared.Verdict.{Verdict}
 use Rattle.answers.specs.Judgement.{verdictAt, verdictWhole}
 use Rattle.file.specs.declared.ReadAnswer.{ReadAnswer}
+use Rattle.file.specs.Lines.{hasFeed, firstLine, behindFirst}
 use Rattle.file.specs.Judging.{readAnswer, readTable}
-use Rattle.report.specs.declared.Asked.{Asked}
-use Rattle.report.specs.declared.Asked.the-variants as asked
+use Rattle.report.specs.declared.ClockLine.{ClockLine}
+use Rattle.report.specs.declared.ClockLine.the-variants as asked
 use Rattle.report.specs.declared.Reply.{Reply}
 use Rattle.report.specs.declared.Reply.the-variants.{Judged, Refused}
-use Rattle.report.specs.Input.{hasFeed, firstLine, behindFirst}
 use Rattle.report.specs.Clock.{askedOn}
 use Rattle.report.specs.Text.{textOf}
 
--- what an input asks: nothing where its clock line is not ended
-unfoldable pub askedIn : List ℕ → Asked
-askedIn input = cond (hasFeed input) (askedOn (firstLine input)) asked.Unheard
+-- what an input asks: nothing yet where its clock line is not ended
+unfoldable pub askedIn : List ℕ → ClockLine
+askedIn input = cond (hasFeed input) (askedOn (firstLine input)) asked.Unended
 
 -- whether a verdict is asked, so that the file is read
-abbrev pub listens : Asked → Bool
-listens asked.Unheard = false
-listens (asked.At clock) = true
-listens asked.Whole = true
-listens (asked.Refused why) = false
+abbrev pub fileRead : ClockLine → Bool
+fileRead asked.Unended = false
+fileRead (asked.At clock) = true
+fileRead asked.Whole = true
+fileRead (asked.Refused why) = false
 
 -- a file that was refused has that reply, and one that was read the verdict
 abbrev pub replyRead : Outcome → ℕ → Verdict → Reply
@@ -37,8 +38,8 @@ replyRead outcome.Accepted line v = Judged v
 replyRead (outcome.Refused why) line v = Refused why line
 
 -- the reply by what is asked, and by what reading the file came to, in record and table
-unfoldable pub replyOn : Asked → ReadAnswer → List ℕ → Reply
-replyOn asked.Unheard read ws = Refused BadLine 0
+unfoldable pub replyOn : ClockLine → ReadAnswer → List ℕ → Reply
+replyOn asked.Unended read ws = Refused BadLine 0
 replyOn (asked.At clock) read ws = replyRead (read .outcome) (read .line) (verdictAt (read .rec) ws (record { 0 = clock .0 }))
 replyOn asked.Whole read ws = replyRead (read .outcome) (read .line) (verdictWhole (read .rec) ws)
 replyOn (asked.Refused why) read ws = Refused why 0
@@ -49,7 +50,7 @@ replyIn came input = replyOn (askedIn input) (readAnswer (behindFirst input) cam
 
 -- and what it leaves in that table: what the file was read into, or the words as they came
 unfoldable pub tableIn : List ℕ → List ℕ → List ℕ
-tableIn came input = cond (listens (askedIn input)) (readTable (behindFirst input) came) came
+tableIn came input = cond (fileRead (askedIn input)) (readTable (behindFirst input) came) came
 
 abbrev pub answerIn : List ℕ → List ℕ → List ℕ
 answerIn came input = textOf (replyIn came input)

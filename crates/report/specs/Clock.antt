@@ -10,11 +10,11 @@ use Rattle.frames.specs.declared.Frame.{Frame}
 use Rattle.frames.specs.declared.Frame.the-variants as frame
 use Rattle.frames.specs.Fields.{allOnes}
 use Rattle.frames.specs.Frames.{frameOf}
-use Rattle.report.specs.declared.Asked.{Asked}
-use Rattle.report.specs.declared.Asked.the-variants.{At, Whole, Refused}
+use Rattle.report.specs.declared.ClockLine.{ClockLine}
+use Rattle.report.specs.declared.ClockLine.the-variants.{At, Whole, Refused}
 
 -- on the clock line a frame of any other kind is of no known kind
-abbrev pub askedBy : Frame → Asked
+abbrev pub askedBy : Frame → ClockLine
 askedBy (frame.Clock c) = cond (eqb (c .0) allOnes) Whole (cond (clockHeld c) (At (record { 0 = c .0 })) (Refused ClockLimit))
 askedBy (frame.Head h) = Refused BadLine
 askedBy (frame.S s) = Refused BadLine
@@ -22,5 +22,5 @@ askedBy (frame.End n) = Refused BadLine
 askedBy frame.Bad = Refused BadLine
 
 -- what a line asks, its line feed aside
-unfoldable pub askedOn : List ℕ → Asked
+unfoldable pub askedOn : List ℕ → ClockLine
 askedOn line = askedBy (frameOf line)

@@ -1,7 +1,8 @@
 pub mod Text
 pub mod Clock
-pub mod Input
 pub mod Answer
-pub mod Hearing
+pub mod Feeding
+pub mod Settled
+pub mod Running
 pub mod Placing
 pub mod Worked

@@ -5,21 +5,22 @@ use answers::Verdict;
 use units::Millis;
 
 mod asking;
-mod hearing;
+mod feeding;
 mod replying;
 mod running;
 mod wording;
 
-pub use hearing::begin;
-pub use hearing::feed;
+pub use feeding::begin;
+pub use feeding::feed;
+pub use feeding::settled;
 pub use replying::answer;
 pub use replying::answer_whole;
 pub use running::run;
 
 // What the clock line asks: nothing yet, since it is not ended; a verdict at a clock, or of the whole
 // period; or the line is refused.
-pub enum Asked {
-    Unheard,
+pub enum ClockLine {
+    Unended,
     At(Millis),
     Whole,
     Refused(Refusal),
@@ -31,12 +32,28 @@ pub enum Reply {
     Refused(Refusal, u64),
 }
 
-// How far the input is heard: what its clock line asks, that line while it is not ended, and the reader
-// of the file. Of the line one byte more than its 18 digits is held, which is enough to see that it is
-// too long.
+// How far the input is read: what its clock line asks, that line while it is not ended, and the reader
+// of the file.
 pub struct Desk {
-    pub asked: Asked,
-    pub line: [u8; 19],
-    pub held: usize,
+    pub asked: ClockLine,
+    pub line: file::LineSoFar,
     pub reader: file::Reader,
+}
+
+// Why the program stopped reading: its input has ended, or its answer is settled.
+pub enum Stopped {
+    Ended,
+    Settled,
+}
+
+// The desk when the reads stopped, and why they did.
+pub struct Fed {
+    pub desk: Desk,
+    pub stopped: Stopped,
+}
+
+// The length of the answer's line, and why the reads stopped.
+pub struct Made {
+    pub count: usize,
+    pub stopped: Stopped,
 }

@@ -4,11 +4,11 @@ ghost use lib.ListN.{length};
 ghost use Rattle.file.specs.Feeding.{finishTable};
 ghost use Rattle.report.specs.Text.{textOf};
 ghost use Rattle.report.specs.Answer.{replyRead, tableIn, answerIn};
-ghost use Rattle.report.specs.Hearing.{over, replyAt, replyWhole, replyBy, tableBy};
-use crate::Asked;
+ghost use Rattle.report.specs.Feeding.{over, replyAt, replyWhole, replyBy, tableBy};
+use crate::ClockLine;
 use crate::Desk;
 use crate::Reply;
-use crate::hearing;
+use crate::feeding;
 use crate::wording;
 use agreement::Refusal;
 use answers::Verdict;
@@ -52,10 +52,10 @@ fn reply(desk: Desk, table: &mut [u64]) -> Reply
 {
     let asked = desk.asked;
     match asked {
-        Asked::Unheard => Reply::Refused(Refusal::BadLine, 0),
-        Asked::At(clock) => reply_at(desk, table, clock),
-        Asked::Whole => reply_whole(desk, table),
-        Asked::Refused(why) => Reply::Refused(why, 0),
+        ClockLine::Unended => Reply::Refused(Refusal::BadLine, 0),
+        ClockLine::At(clock) => reply_at(desk, table, clock),
+        ClockLine::Whole => reply_whole(desk, table),
+        ClockLine::Refused(why) => Reply::Refused(why, 0),
     }
 }
 
@@ -76,6 +76,6 @@ pub fn answer_whole(input: &[u8], table: &mut [u64], out: &mut [u8; 93]) -> usiz
     ensures { λ _. ⌜ now (out .exit) ≡ over (answerIn (now (table .entry)) (now (input .entry))) (now (out .entry)) ⌝ }
     ensures { λ _. ⌜ now (table .exit) ≡ tableIn (now (table .entry)) (now (input .entry)) ⌝ }
 {
-    let desk = hearing::feed(hearing::begin(), table, input);
+    let desk = feeding::feed(feeding::begin(), table, input);
     answer(desk, table, out)
 }

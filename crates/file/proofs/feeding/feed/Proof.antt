@@ -1,43 +1,36 @@
 -- `feed` meets its contract. The loop's invariant: what is left of the piece comes to the same. The measure is how much that is.
+use mathlib.Core.Path.{_≡_}
 use Prim.Native.Nat.{_-_}
 use lib.ListN.{length}
-use lib.Seq.{length-take-le}
 use borrow.Author.Needs.{needs}
-use Rattle.file.proofs.Turning.{unfed-reader, unfed-table, Turned, turn-none, turn-part, turn-feed, turn-held, turn-over, turned-reader, turned-table}
+use Rattle.file.proofs.Turning.{unfed-reader, unfed-table, Turned, turn-none, end-within, end-fits, turn-ended, turn-unended, ended-less, unended-less, turned-reader, turned-table}
 use Rattle.file.proofs.feeding.feed.Statement.{statement}
 use Rattle.file.proofs.feeding.feed.Tie as tie
 
 abbrev Inv-loop : tie.InvT-loop
-Inv-loop table₀ piece reading₀ line₀ held₀ i₀ table reading line held i =
-    Turned (record { reading = reading₀; line = line₀; held = held₀ }) table₀ piece table reading line held i
+Inv-loop table₀ piece reading₀ line₀ at₀ table reading line at = Turned (record { reading = reading₀; line = line₀ }) table₀ piece table reading line at
 
 abbrev μ-loop : tie.MeasureT-loop
-μ-loop table₀ piece reading₀ line₀ held₀ i₀ table reading line held i = length piece - i
+μ-loop table₀ piece reading₀ line₀ at₀ table reading line at = length piece - at
 
-loop-holds : tie.Need-loop-holds Inv-loop μ-loop
-loop-holds c = search (needs, turn-none)
-
-take-line-requires : tie.Need-take-line-requires Inv-loop μ-loop
-take-line-requires c κs = search needs
+take-so-far-requires : tie.Need-take-so-far-requires Inv-loop μ-loop
+take-so-far-requires c κs = search needs
 
 loop-again : tie.Need-loop-again Inv-loop μ-loop
 loop-again c =
-    let took = c .before .before in
-    let then2 = took .before .before .before in
-    let test = then2 .before .before in
-    turn-feed _ _ _ _ _ _ _ _ (test .before .loop .inv) (test .loop-test .taken) (then2 .if2 .taken) _ _ (took .take-line .kept .1 .0) (took .take-line .ensures)
+    let took = c .before .before .before in
+    let then2 = took .before .before in
+    let more = then2 .before in
+    let end = more .before .before in
+    let turn = end .before .before in
+    turn-ended _ _ _ (end .line-end .ensures) _ _ _ _ _ (turn .before .loop .inv) _ (more .more .ensures) (then2 .if2 .taken) _ (c .none .ensures) _ _ (took .take-so-far .kept .1 .0) (took .take-so-far .ensures)
 
 loop-again-2 : tie.Need-loop-again-2 Inv-loop μ-loop
 loop-again-2 c =
-    let else2 = c .before in
-    let test = else2 .before .before in
-    turn-held _ _ _ _ _ _ _ _ (test .before .loop .inv) (test .loop-test .taken) (else2 .if2 .left) (c .if3 .taken)
-
-loop-again-3 : tie.Need-loop-again-3 Inv-loop μ-loop
-loop-again-3 c =
-    let else2 = c .before in
-    let test = else2 .before .before in
-    turn-over _ _ _ _ _ _ _ _ (test .before .loop .inv) (test .loop-test .taken) (else2 .if2 .left) (c .if3 .left)
+    let more = c .before in
+    let end = more .before .before in
+    let turn = end .before .before in
+    turn-unended _ _ _ (end .line-end .ensures) _ _ _ _ _ (turn .before .loop .inv) _ (more .more .ensures) (c .if2 .left)
 
 returns : tie.Need-returns Inv-loop μ-loop
 returns c =
@@ -50,8 +43,8 @@ returns-2 c =
     let else1 = c .before .before .before .before in
     let asked = else1 .before in
     let reader = asked .before .before .before .before .args .reader in (
-      turned-reader reader _ _ _ _ _ _ _ (c .before .loop .inv) (c .loop-test .left) _ (asked .belongs .ensures) (else1 .if1 .left),
-      turned-table reader _ _ _ _ _ _ _ (c .before .loop .inv) (c .loop-test .left) _ (asked .belongs .ensures) (else1 .if1 .left),
+      turned-reader reader _ _ _ _ _ _ (c .before .loop .inv) (c .loop-test .left) _ (asked .belongs .ensures) (else1 .if1 .left),
+      turned-table reader _ _ _ _ _ _ (c .before .loop .inv) (c .loop-test .left) _ (asked .belongs .ensures) (else1 .if1 .left),
     )
 
 pub feed-spec : {M : Type 1} → statement M
@@ -63,19 +56,22 @@ feed-spec =
     (λ c κs. search needs)
     (λ c. search needs)
     returns
-    loop-holds
+    (λ c. search (needs, turn-none))
     (λ c. search needs)
     (λ c. search needs)
-    (λ c. search (needs, turn-part))
-    (λ c. search (needs, length-take-le, turn-part))
-    take-line-requires
     (λ c. search needs)
+    (λ c κs. search needs)
+    (λ c. search (needs, end-fits))
+    (λ c. search needs)
+    (λ c. search needs)
+    (λ c. search (needs, end-within))
+    (λ c κs. search needs)
+    (λ c. search needs)
+    take-so-far-requires
+    (λ c κs. search needs)
+    (λ c. search (needs, ended-less))
     loop-again
-    (λ c. search needs)
-    (λ c. search needs)
-    (λ c. search needs)
+    (λ c. search (needs, unended-less))
     loop-again-2
-    (λ c. search needs)
-    loop-again-3
     (λ c. search needs)
     returns-2)

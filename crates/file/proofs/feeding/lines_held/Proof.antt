@@ -1,6 +1,6 @@
 -- `lines_held` meets its contract, test by test.
 use borrow.Author.Needs.{needs}
-use Rattle.file.proofs.Holding.{lines-disagree, lines-none, lines-some}
+use Rattle.file.proofs.Belonging.{lines-disagree, lines-none, lines-some}
 use Rattle.file.proofs.feeding.lines_held.Statement.{statement}
 use Rattle.file.proofs.feeding.lines_held.Tie as tie
 

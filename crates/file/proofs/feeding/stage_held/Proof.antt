@@ -1,6 +1,6 @@
 -- `stage_held` meets its contract, stage by stage.
 use borrow.Author.Needs.{needs}
-use Rattle.file.proofs.Holding.{stage-nothing, stage-headed, stage-open, stage-filled, stage-ended, stage-refused}
+use Rattle.file.proofs.Belonging.{stage-nothing, stage-headed, stage-open, stage-filled, stage-ended, stage-refused}
 use Rattle.file.proofs.feeding.stage_held.Statement.{statement}
 use Rattle.file.proofs.feeding.stage_held.Tie as tie
 

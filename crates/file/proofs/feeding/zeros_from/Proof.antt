@@ -9,10 +9,10 @@ use Rattle.file.proofs.feeding.zeros_from.Statement.{statement}
 use Rattle.file.proofs.feeding.zeros_from.Tie as tie
 
 abbrev Inv-loop : tie.InvT-loop
-Inv-loop line from i₀ i = zeros (drop i line) ≡ zeros (drop from line)
+Inv-loop bytes from i₀ i = zeros (drop i bytes) ≡ zeros (drop from bytes)
 
 abbrev μ-loop : tie.MeasureT-loop
-μ-loop line from i₀ i = length line - i
+μ-loop bytes from i₀ i = length bytes - i
 
 pub zeros-from-spec : {M : Type 1} → statement M
 zeros-from-spec =

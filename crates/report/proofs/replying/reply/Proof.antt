@@ -1,6 +1,6 @@
 -- `reply` meets its contract, case by case.
 use borrow.Author.Needs.{needs}
-use Rattle.report.proofs.Told.{reply-unheard, table-unheard, reply-at, table-at, reply-whole, table-whole, reply-refused, table-refused}
+use Rattle.report.proofs.Told.{reply-unended, table-unended, reply-at, table-at, reply-whole, table-whole, reply-refused, table-refused}
 use Rattle.report.proofs.replying.reply.Statement.{statement}
 use Rattle.report.proofs.replying.reply.Tie as tie
 
@@ -14,7 +14,7 @@ reply-spec =
     (λ c. search needs)
     (λ c κs. search needs)
     (λ c. search needs)
-    (λ c. (search (needs, reply-unheard), search (needs, table-unheard)))
+    (λ c. (search (needs, reply-unended), search (needs, table-unended)))
     (λ c. search needs)
     (λ c. (search (needs, reply-at), search (needs, table-at)))
     (λ c. search needs)

@@ -1,6 +1,6 @@
 -- `answer_input` meets its contract: the pieces are those that the reads brought, into a table of 3,072 words.
 use borrow.Author.Needs.{needs}
-use Rattle.report.proofs.Pieces.{answered}
+use Rattle.report.proofs.Turns.{answered}
 use Rattle.report.proofs.running.answer_input.Statement.{statement}
 use Rattle.report.proofs.running.answer_input.Tie as tie
 

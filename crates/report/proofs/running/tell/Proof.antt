@@ -1,6 +1,6 @@
 -- `tell` meets its contract: what is told of a desk is the answer to whatever brought it there.
 use borrow.Author.Needs.{needs}
-use Rattle.report.proofs.Pieces.{tells}
+use Rattle.report.proofs.Turns.{tells}
 use Rattle.report.proofs.running.tell.Statement.{statement}
 use Rattle.report.proofs.running.tell.Tie as tie
 
