@@ -13,7 +13,7 @@ use mir.Syntax.{w64}
 use mir.Val.{Fits}
 use Rattle.io.specs.Counts.{Counts}
 use Rattle.io.specs.Digits.{glyph, digits, Fewest}
-use Rattle.report.specs.Text.{digit, decimalBy, decimal, goesOn, readFrom}
+use Rattle.report.specs.Text.{digit, decimalBy, decimal, beginsWithDigit, readFrom}
 use Rattle.report.specs.Placing.{Put}
 use Rattle.report.proofs.Placed.{put-put}
 
@@ -103,12 +103,12 @@ read-by (suc f) n behind a = go (ltb n 10) refl (read-by f (n / 10) (digit (n % 
         ih (omega arith) ∙
         read-digit (n / 10) n (n % 10) behind (omega arith) (omega arith)
 
-read-ends : (n : ℕ) (behind : List ℕ) → goesOn behind ≡ false → readFrom n behind ≡ n
+read-ends : (n : ℕ) (behind : List ℕ) → beginsWithDigit behind ≡ false → readFrom n behind ≡ n
 unfolding readFrom
 read-ends n [] e = refl
 read-ends n (b ∷ bs) e = ap (λ t. cond t (readFrom (n * 10 + (b - 48)) bs) n) e
 
-pub decimal-read : (n : ℕ) (behind : List ℕ) → goesOn behind ≡ false → readFrom 0 (decimal n ++ behind) ≡ n
+pub decimal-read : (n : ℕ) (behind : List ℕ) → beginsWithDigit behind ≡ false → readFrom 0 (decimal n ++ behind) ≡ n
 unfolding decimal
 decimal-read n behind e = read-by n n behind (omega arith) ∙ read-ends n behind e
 

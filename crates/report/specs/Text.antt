@@ -71,9 +71,9 @@ abbrev pub isDecimal : ℕ → Bool
 isDecimal b = leb 48 b && leb b 57
 
 -- whether some bytes begin with a decimal digit
-abbrev pub goesOn : List ℕ → Bool
-goesOn [] = false
-goesOn (b ∷ bs) = isDecimal b
+abbrev pub beginsWithDigit : List ℕ → Bool
+beginsWithDigit [] = false
+beginsWithDigit (b ∷ bs) = isDecimal b
 
 -- the number that is read from the digits in front of some bytes, with n read before them
 unfoldable pub readFrom : ℕ → List ℕ → ℕ
@@ -89,4 +89,4 @@ pub record Figures : Type 0 where
   -- and is of the fewest digits that hold the number, so that no zero stands in front
   pub fewest : (n k : ℕ) → Fewest 10 1 n k → digits 10 k n ≡ decimal n
   -- whoever reads its digits, up to the first byte that is none, has the number: so it is the only one with this text
-  pub read : (n : ℕ) (behind : List ℕ) → goesOn behind ≡ false → readFrom 0 (decimal n ++ behind) ≡ n
+  pub read : (n : ℕ) (behind : List ℕ) → beginsWithDigit behind ≡ false → readFrom 0 (decimal n ++ behind) ≡ n
