@@ -5,7 +5,8 @@
  * for the code of this library. The proofs take these things for granted, and nothing tests them:
  *
  * - a pointer is valid for the length beside it, counted in elements, and aligned for their type;
- * - it is not null, even where the length is 0;
+ * - it is not null, even where the length is 0: give the address of any element then. Each call below says
+ *   so again by "no null";
  * - what it points at has been written, with zeros if with nothing better;
  * - what a call may change (a pointer without const) overlaps nothing else that the call is given;
  * - while a call runs no other thread touches what it may change, or writes to what it reads.
@@ -127,58 +128,61 @@ enum flonterri_refusal {
 };
 
 /* Opens a timeline: writes the record, and zeroes the table. Refusals 1, 2. Refused with 1 it zeroes the
- * record and leaves the table as it came; refused with 2 it changes nothing. */
+ * record and leaves the table as it came; refused with 2 it changes nothing. No null. */
 uint32_t flonterri_open(uint64_t *record, size_t record_words, uint64_t *table, size_t table_words,
                         uint32_t timescale, uint64_t offset, uint64_t start, uint64_t duration, uint64_t depth,
                         uint32_t first_number, uint64_t first_tick);
 
 /* Appends count references of duration ticks each, from start on, a full tick, which must be the next
  * tick. Those that are spent already are counted as dropped and not stored. Refusals 2 to 9. Changes
- * record and table; refused it changes nothing. */
+ * record and table; refused it changes nothing. No null. */
 uint32_t flonterri_append(uint64_t *record, size_t record_words, uint64_t *table, size_t table_words,
                           uint64_t start, uint32_t duration, uint32_t count);
 
 /* The same, where the start comes as the low 32 bits of a tick. Stamp less next tick, modulo 2^32, is 0
  * where it joins, below 2^31 where it is a gap, else an overlap. Refusals 2 to 9. Changes record and
- * table; refused it changes nothing. */
+ * table; refused it changes nothing. No null. */
 uint32_t flonterri_append_stamp(uint64_t *record, size_t record_words, uint64_t *table, size_t table_words,
                                 uint32_t stamp, uint32_t duration, uint32_t count);
 
 /* Raises the greatest clock, unless it is greater already, and drops the references that are spent then.
- * Refusals 2, 10. Changes record and table; refused it changes nothing. */
+ * Refusals 2, 10. Changes record and table; refused it changes nothing. No null. */
 uint32_t flonterri_trim(uint64_t *record, size_t record_words, uint64_t *table, size_t table_words, uint64_t clock);
 
 /* The verdict at a clock. out has 5 words, as flonterri_verdict_word names them. What does not apply is 0;
  * where the kind is complete, covered is needed and percent is 100. Refusals 2, 10, 11, and 15 for out.
- * Changes out alone; refused it changes nothing. */
+ * Changes out alone; refused it changes nothing. No null. */
 uint32_t flonterri_verdict(const uint64_t *record, size_t record_words, const uint64_t *table, size_t table_words,
                            uint64_t clock, uint64_t *out, size_t out_words);
 
 /* The verdict of the whole period, out as above. Refusals 2, 19, and 15 for out. Changes out alone; refused
- * it changes nothing. */
+ * it changes nothing. No null. */
 uint32_t flonterri_verdict_whole(const uint64_t *record, size_t record_words, const uint64_t *table,
                                  size_t table_words, uint64_t *out, size_t out_words);
 
 /* When the kept reference of a number is available. out has 3 words, as flonterri_availability_word names
  * them, in signed grains from availabilityStartTime; where it never ends, the end is 0. Refusals 2, 13, and 15
- * for out; a number over 2^32 - 1 is never kept, and so is 13. Changes out alone; refused it changes nothing. */
+ * for out; a number over 2^32 - 1 is never kept, and so is 13. Changes out alone; refused it changes nothing.
+ * No null. */
 uint32_t flonterri_availability(const uint64_t *record, size_t record_words, const uint64_t *table,
                                 size_t table_words, uint64_t number, int64_t *out, size_t out_words);
 
 /* The runs that touch the ticks from a up to b, b excluded. out has 2 words, as flonterri_touching_word names
  * them; both are 0 if no run touches. Refusals 2, 14, and 15 for out. Changes out alone; refused it changes
- * nothing. */
+ * nothing. No null. */
 uint32_t flonterri_touching(const uint64_t *record, size_t record_words, const uint64_t *table, size_t table_words,
                             uint64_t a, uint64_t b, uint64_t *out, size_t out_words);
 
 /* Reads a whole file into record and table, as opening plus appends. out has 1 word: the refused line, counted
  * from 1, or 0 where the file is accepted. Refusals 1, 3 to 9, 16, 17, 18. Refused so, it zeroes record and
- * table and puts the line into out; refused with 2 for the record's length or 15 for out it changes nothing. */
+ * table and puts the line into out; refused with 2 for the record's length or 15 for out it changes nothing.
+ * No null. */
 uint32_t flonterri_read(const uint8_t *bytes, size_t byte_count, uint64_t *record, size_t record_words,
                         uint64_t *table, size_t table_words, uint64_t *out, size_t out_words);
 
 /* Writes the whole file of what record and table keep. out has 1 word: how many bytes were written; those
- * behind them stay as they came. Refusals 2, 12, 15. Changes bytes and out; refused it changes nothing. */
+ * behind them stay as they came. Refusals 2, 12, 15. Changes bytes and out; refused it changes nothing.
+ * No null. */
 uint32_t flonterri_write(const uint64_t *record, size_t record_words, const uint64_t *table, size_t table_words,
                          uint8_t *bytes, size_t byte_count, uint64_t *out, size_t out_words);
 

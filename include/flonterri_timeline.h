@@ -15,7 +15,8 @@
  * Every function answers the refusal number of its namesake in flonterri.h, and is refused exactly when that
  * one is; the lengths of record and out are right here, so the refusals for them do not occur. What that
  * header takes for granted of memory is for the caller here too, as far as it concerns the table and the
- * bytes: they are valid for their lengths, not null, have been written, and overlap nothing else.
+ * bytes: they are valid for their lengths, not null even where the length is 0, have been written, and
+ * overlap nothing else. Where a call takes one of them, "no null" says so again. No other pointer may be null.
  *
  * This layer is plain C, a few lines a call, and is not proved. It stands in a header of its own so that
  * flonterri.h has only what the archive has: what is proved, and what another language binds to.
@@ -31,7 +32,8 @@ extern "C" {
 
 /* A timeline. Opening or reading fills it, whatever it held before. The table is the caller's and must last
  * as long as the timeline; table_words is how many words it has. The words of the record may be read at any
- * time, as record[FLONTERRI_NEXT_TICK]. */
+ * time, as record[FLONTERRI_NEXT_TICK]. A longer table holds the same timeline where it begins with the words
+ * of the old one and has zeros behind them: point table at it, and set table_words. */
 struct flonterri_timeline {
     uint64_t record[FLONTERRI_RECORD_WORDS];
     uint64_t *table;
@@ -79,7 +81,7 @@ struct flonterri_runs {
 
 /* ---- the calls that change */
 
-/* A timeline over a table of so many words, with zeros for a record, before it is opened or read. */
+/* A timeline over a table of so many words, with zeros for a record, before it is opened or read. No null. */
 static inline struct flonterri_timeline flonterri_timeline_over(uint64_t *table, size_t table_words)
 {
     struct flonterri_timeline timeline = {{0}, table, table_words};
@@ -88,7 +90,7 @@ static inline struct flonterri_timeline flonterri_timeline_over(uint64_t *table,
 }
 
 /* Opens a timeline over a table of so many words. Refusal 1, which leaves the table as it came and a record of
- * zeros, so that every call but opening and reading is refused with 2. */
+ * zeros, so that every call but opening and reading is refused with 2. No null. */
 static inline uint32_t flonterri_timeline_open(struct flonterri_timeline *timeline, uint64_t *table,
                                                size_t table_words, const struct flonterri_head *head,
                                                uint64_t first_tick)
@@ -205,7 +207,7 @@ static inline struct flonterri_run flonterri_run_at(const struct flonterri_runs 
 
 /* Reads a whole file into a timeline over a table of so many words. line is the refused line, counted from
  * 1, or 0 where the file is accepted. Refusals 1, 3 to 9, 16, 17, 18, which leave a table and a record of
- * zeros, so that every call but opening and reading is refused with 2. */
+ * zeros, so that every call but opening and reading is refused with 2. No null. */
 static inline uint32_t flonterri_timeline_read(struct flonterri_timeline *timeline, uint64_t *table,
                                                size_t table_words, const uint8_t *bytes, size_t byte_count,
                                                uint64_t *line)
@@ -221,7 +223,7 @@ static inline uint32_t flonterri_timeline_read(struct flonterri_timeline *timeli
 }
 
 /* Writes the whole file of what is kept to the front of some bytes, and its length; what lies behind stays as
- * it came. Refusals 2, 12, 15; refused it changes nothing. */
+ * it came. Refusals 2, 12, 15; refused it changes nothing. No null. */
 static inline uint32_t flonterri_timeline_write(const struct flonterri_timeline *timeline, uint8_t *bytes,
                                                 size_t byte_count, size_t *length)
 {

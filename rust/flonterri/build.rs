@@ -1,7 +1,7 @@
 //! Finds the archive that `rt staticlib flonterri` writes and has it linked.
 
 use std::env;
-use std::path::PathBuf;
+use std::path::{Path, PathBuf};
 use std::process::exit;
 
 /// The folder of the archive, where it is not `target/staticlib` of the repository.
@@ -40,11 +40,31 @@ fn main() {
 /// The folder that the environment names, else `target/staticlib` of the repository; absolute,
 /// since the linker may run in another folder.
 fn folder() -> PathBuf {
-    let named = env::var_os(FOLDER).filter(|folder| !folder.is_empty());
-    let folder = named.map_or_else(|| PathBuf::from("../../target/staticlib"), PathBuf::from);
-    let crate_folder = env::var_os("CARGO_MANIFEST_DIR").unwrap_or_default();
-    let folder = PathBuf::from(crate_folder).join(folder);
+    let folder = match env::var_os(FOLDER).filter(|folder| !folder.is_empty()) {
+        Some(named) => from_caller(Path::new(&named)),
+        None => {
+            let crate_folder = env::var_os("CARGO_MANIFEST_DIR").unwrap_or_default();
+            PathBuf::from(crate_folder).join("../../target/staticlib")
+        }
+    };
     folder.canonicalize().unwrap_or(folder)
+}
+
+/// A folder as the caller means it. Cargo runs this program in the crate's own folder, and leaves
+/// the variable PWD as the caller's shell has set it.
+fn from_caller(named: &Path) -> PathBuf {
+    if named.is_absolute() {
+        return named.to_path_buf();
+    }
+    println!("cargo:rerun-if-env-changed=PWD");
+    match env::var_os("PWD").map(PathBuf::from) {
+        Some(caller) if caller.is_absolute() => caller.join(named),
+        _ => fail(&format!(
+            "{} is {}, and from which folder is not known, since PWD is not set. Give the whole path",
+            FOLDER,
+            named.display()
+        )),
+    }
 }
 
 /// Ends the build with a message.

@@ -4,7 +4,7 @@ use std::fmt;
 use std::iter::FusedIterator;
 use std::slice::ChunksExact;
 
-use crate::units::{narrow, Grain, Span, Tick};
+use crate::units::{narrow, Grain, Number, Span, Tick};
 use crate::words::{availability_kind, availability_word, run_word, verdict_kind, verdict_word};
 use crate::words::{AVAILABILITY_WORDS, RUN_WORDS, VERDICT_WORDS};
 
@@ -33,11 +33,25 @@ pub enum Verdict {
 
 impl Verdict {
     /// True where every needed tick, and at least one, lies in a kept reference.
+    ///
+    /// ```
+    /// use flonterri::Verdict;
+    ///
+    /// assert!(Verdict::Complete { needed: 10_000 }.is_complete());
+    /// assert!(!Verdict::NothingNeeded.is_complete());
+    /// ```
     pub fn is_complete(self) -> bool {
         matches!(self, Verdict::Complete { .. })
     }
 
     /// Percent of the needed ticks that are covered, rounded down; none where nothing is needed.
+    ///
+    /// ```
+    /// use flonterri::Verdict;
+    ///
+    /// assert_eq!(Verdict::Complete { needed: 10_000 }.percent(), Some(100));
+    /// assert_eq!(Verdict::NothingNeeded.percent(), None);
+    /// ```
     pub fn percent(self) -> Option<u64> {
         match self {
             Verdict::NothingNeeded => None,
@@ -114,7 +128,11 @@ pub struct Run {
     pub count: u64,
 }
 
-/// Runs, read from their part of the table; nothing is copied.
+/// Runs, read from their part of the table; nothing is copied. [`Timeline::runs`] and
+/// [`Timeline::touching`] give them.
+///
+/// [`Timeline::runs`]: crate::Timeline::runs
+/// [`Timeline::touching`]: crate::Timeline::touching
 #[derive(Clone, Debug)]
 pub struct Runs<'table>(ChunksExact<'table, u64>);
 
@@ -144,3 +162,96 @@ impl Iterator for Runs<'_> {
 impl ExactSizeIterator for Runs<'_> {}
 
 impl FusedIterator for Runs<'_> {}
+
+/// A kept reference.
+///
+/// ```
+/// use flonterri::{Number, Reference, Span, Tick};
+///
+/// let reference = Reference { number: Number(3), start: Tick(8000), duration: Span(4000) };
+/// assert_eq!(reference.end(), Tick(12_000));
+/// ```
+#[derive(Clone, Copy, Debug, PartialEq, Eq, Hash)]
+pub struct Reference {
+    /// Its number.
+    pub number: Number,
+    /// Where it starts.
+    pub start: Tick,
+    /// How long it lasts.
+    pub duration: Span,
+}
+
+impl Reference {
+    /// The first tick behind it.
+    ///
+    /// ```
+    /// use flonterri::{Number, Reference, Span, Tick};
+    ///
+    /// let reference = Reference { number: Number(0), start: Tick(111), duration: Span(40) };
+    /// assert_eq!(reference.end(), Tick(151));
+    /// ```
+    pub fn end(self) -> Tick {
+        Tick(self.start.0.saturating_add(self.duration.0.into()))
+    }
+}
+
+/// Kept references, oldest first, read from the table; nothing is copied. [`Timeline::references`]
+/// gives them.
+///
+/// [`Timeline::references`]: crate::Timeline::references
+#[derive(Clone, Debug)]
+pub struct References<'table> {
+    runs: Runs<'table>,
+    /// The run that is being read, less the references that were given.
+    rest: Run,
+    /// The number of the next reference.
+    number: u64,
+    /// How many are still to come.
+    left: u64,
+}
+
+impl<'table> References<'table> {
+    /// So many references in some runs, with the number of the first.
+    pub(crate) fn of_runs(runs: Runs<'table>, number: Number, left: u64) -> Self {
+        let rest = Run {
+            start: Tick(0),
+            duration: Span(0),
+            count: 0,
+        };
+        References {
+            runs,
+            rest,
+            number: number.0.into(),
+            left,
+        }
+    }
+}
+
+impl Iterator for References<'_> {
+    type Item = Reference;
+
+    fn next(&mut self) -> Option<Reference> {
+        while self.rest.count == 0 {
+            self.rest = self.runs.next()?;
+        }
+        let reference = Reference {
+            number: Number(narrow(self.number, u32::MAX)),
+            start: self.rest.start,
+            duration: self.rest.duration,
+        };
+        self.rest.start = reference.end();
+        self.rest.count -= 1;
+        self.number = self.number.saturating_add(1);
+        self.left = self.left.saturating_sub(1);
+        Some(reference)
+    }
+
+    fn size_hint(&self) -> (usize, Option<usize>) {
+        let left = narrow(self.left, usize::MAX);
+        (left, Some(left))
+    }
+}
+
+impl ExactSizeIterator for References<'_> {}
+
+impl FusedIterator for References<'_> {}

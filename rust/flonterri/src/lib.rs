@@ -47,7 +47,8 @@
 //! [`words`].
 //!
 //! The archive is `libflonterri.a`, for x86-64; `rt staticlib flonterri` writes it. Set
-//! `FLONTERRI_LIB_DIR` where it does not lie in `target/staticlib` of the repository.
+//! `FLONTERRI_LIB_DIR` where it does not lie in `target/staticlib` of the repository. A relative
+//! folder is looked for from the folder in which cargo is called.
 
 #![deny(missing_docs)]
 #![deny(unsafe_code)]
@@ -59,7 +60,7 @@ mod units;
 #[allow(unsafe_code)]
 pub mod words;
 
-pub use answers::{Availability, Run, Runs, Verdict};
+pub use answers::{Availability, Reference, References, Run, Runs, Verdict};
 pub use refusal::{OpenError, ReadError, Refusal, RefusedFile};
 pub use timeline::{Head, Timeline};
 pub use units::{Grain, Millis, Number, Span, Stamp, Tick, Timescale};

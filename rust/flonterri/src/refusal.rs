@@ -3,7 +3,9 @@
 use std::error::Error;
 use std::fmt;
 
-/// Why a call is refused, a case for each number. A refused call changes nothing.
+/// Why a call is refused, a case for each number. A refused call of a
+/// [`Timeline`](crate::Timeline) changes nothing; what one of [`words`](crate::words) leaves is said
+/// there.
 ///
 /// ```
 /// use flonterri::Refusal;
@@ -32,7 +34,8 @@ pub enum Refusal {
     CountLimit = 7,
     /// 8: a reference starts at or after a known period end.
     PastEnd = 8,
-    /// 9: a new run is needed and the table has none left.
+    /// 9: a new run is needed and the table has none left; see
+    /// [`grow`](crate::Timeline::grow).
     NoRunLeft = 9,
     /// 10: the clock is over its limit.
     ClockLimit = 10,
@@ -81,11 +84,22 @@ impl Refusal {
     ];
 
     /// The number of the refusal.
+    ///
+    /// ```
+    /// assert_eq!(flonterri::Refusal::NoRunLeft.number(), 9);
+    /// ```
     pub fn number(self) -> u32 {
         self as u32
     }
 
     /// The refusal of a number, if there is one.
+    ///
+    /// ```
+    /// use flonterri::Refusal;
+    ///
+    /// assert_eq!(Refusal::from_number(9), Some(Refusal::NoRunLeft));
+    /// assert_eq!(Refusal::from_number(0), None);
+    /// ```
     pub fn from_number(number: u32) -> Option<Refusal> {
         Refusal::ALL
             .iter()
@@ -94,6 +108,10 @@ impl Refusal {
     }
 
     /// What is wrong, in words.
+    ///
+    /// ```
+    /// assert_eq!(flonterri::Refusal::NoRunLeft.message(), "the table has no run left");
+    /// ```
     pub fn message(self) -> &'static str {
         match self {
             Refusal::OverLimit => {

@@ -2,7 +2,7 @@
 
 use std::ops::Range;
 
-use crate::answers::{Availability, Runs, Verdict};
+use crate::answers::{Availability, References, Runs, Verdict};
 use crate::refusal::{OpenError, ReadError, Refusal, RefusedFile};
 use crate::units::{narrow, Millis, Number, Span, Stamp, Tick, Timescale};
 use crate::words::{self, touching_word, word, RECORD_WORDS, RUN_WORDS};
@@ -44,6 +44,13 @@ pub struct Head {
 impl Head {
     /// A head with this timescale and 0 in every other field: a period that starts at
     /// availabilityStartTime, with no known end and no depth.
+    ///
+    /// ```
+    /// use flonterri::{Head, Millis, Timescale};
+    ///
+    /// let head = Head::new(Timescale(90_000));
+    /// assert_eq!((head.timescale, head.depth), (Timescale(90_000), Millis(0)));
+    /// ```
     pub fn new(timescale: Timescale) -> Head {
         Head {
             timescale,
@@ -91,9 +98,27 @@ pub struct Timeline {
 
 /// The calls that change. A refused call changes nothing.
 impl Timeline {
-    /// Opens a timeline with room for so many runs. References of one duration that follow each
-    /// other share a run, so a few runs hold a long timeline. Refusal
-    /// [`OverLimit`](Refusal::OverLimit), or [`NoMemory`](OpenError::NoMemory) for so many runs.
+    /// Opens a timeline with room for so many runs. Refusal [`OverLimit`](Refusal::OverLimit), or
+    /// [`NoMemory`](OpenError::NoMemory) for so many runs.
+    ///
+    /// How many: references of one duration that follow each other share a run, so where all
+    /// segments last as long, a few runs hold any number of them. Each change of duration costs a
+    /// run. Durations that alternate cost one for each reference: then take the window depth and
+    /// what lies between two trims, by the shortest duration. A run is 24 bytes, and every call
+    /// looks at the whole table. An append to a full one is refused with
+    /// [`NoRunLeft`](Refusal::NoRunLeft), and [`grow`](Timeline::grow) makes it longer.
+    ///
+    /// ```
+    /// # use flonterri::{Head, Refusal, OpenError, Tick, Timeline, Timescale};
+    /// # fn main() -> Result<(), flonterri::OpenError> {
+    /// let timeline = Timeline::open(Head::new(Timescale(1000)), Tick(0), 100)?;
+    /// assert_eq!((timeline.capacity(), timeline.runs_used()), (100, 0));
+    ///
+    /// let refused = Timeline::open(Head::new(Timescale(0)), Tick(0), 100);
+    /// assert_eq!(refused, Err(OpenError::Refused(Refusal::OverLimit)));
+    /// # Ok(())
+    /// # }
+    /// ```
     pub fn open(head: Head, first_tick: Tick, runs: usize) -> Result<Timeline, OpenError> {
         let mut record = [0; RECORD_WORDS];
         let mut table = table_of(runs)?;
@@ -172,8 +197,46 @@ impl Timeline {
     /// Raises the greatest clock to this one, if it is later, and drops every reference that is
     /// needed neither at it nor at any later millisecond. An earlier clock changes nothing.
     /// Refusal [`ClockLimit`](Refusal::ClockLimit).
+    ///
+    /// ```
+    /// # use flonterri::{Head, Millis, Span, Tick, Timeline, Timescale};
+    /// # fn main() -> Result<(), flonterri::OpenError> {
+    /// let head = Head { depth: Millis(10_000), ..Head::new(Timescale(1000)) };
+    /// let mut timeline = Timeline::open(head, Tick(0), 10)?;
+    /// timeline.append(Tick(0), Span(4000), 5)?;
+    /// timeline.trim(Millis(13_999))?;
+    /// assert_eq!(timeline.dropped(), 0);
+    /// timeline.trim(Millis(14_000))?;
+    /// assert_eq!(timeline.dropped(), 1);
+    /// # Ok(())
+    /// # }
+    /// ```
     pub fn trim(&mut self, clock: Millis) -> Result<(), Refusal> {
         Refusal::judge(words::trim(&mut self.record, &mut self.table, clock.0))
+    }
+
+    /// Makes room for so many runs in all: the same references, and more zeros behind them. Where
+    /// there is as much room already, nothing changes. [`NoMemory`](OpenError::NoMemory) for so
+    /// many runs, which changes nothing either; it is never refused.
+    ///
+    /// An append that needs a new run is refused with [`NoRunLeft`](Refusal::NoRunLeft) where the
+    /// table is full:
+    ///
+    /// ```
+    /// # use flonterri::{Head, Refusal, Span, Tick, Timeline, Timescale};
+    /// # fn main() -> Result<(), flonterri::OpenError> {
+    /// let mut timeline = Timeline::open(Head::new(Timescale(1000)), Tick(0), 1)?;
+    /// timeline.append(Tick(0), Span(4000), 5)?;
+    /// assert_eq!(timeline.append(Tick(20_000), Span(4004), 1), Err(Refusal::NoRunLeft));
+    ///
+    /// timeline.grow(timeline.capacity() + 100)?;
+    /// timeline.append(Tick(20_000), Span(4004), 1)?;
+    /// assert_eq!((timeline.accepted(), timeline.capacity()), (6, 101));
+    /// # Ok(())
+    /// # }
+    /// ```
+    pub fn grow(&mut self, runs: usize) -> Result<(), OpenError> {
+        lengthen(&mut self.table, runs)
     }
 }
 
@@ -181,6 +244,26 @@ impl Timeline {
 impl Timeline {
     /// The verdict at a clock. Refusals [`ClockLimit`](Refusal::ClockLimit),
     /// [`EarlierClock`](Refusal::EarlierClock).
+    ///
+    /// The window ends at the clock, so ask as far back as segments are late, and trim by the
+    /// same clock:
+    ///
+    /// ```
+    /// # use flonterri::{Head, Millis, Span, Tick, Timeline, Timescale};
+    /// # fn main() -> Result<(), flonterri::OpenError> {
+    /// // Segments of 4 s that come at most 700 ms after their end.
+    /// let late = 4_700;
+    /// let head = Head { depth: Millis(10_000), ..Head::new(Timescale(1000)) };
+    /// let mut timeline = Timeline::open(head, Tick(0), 10)?;
+    /// timeline.append(Tick(0), Span(4000), 5)?;
+    /// let now = 24_700;
+    /// let clock = Millis(now - late).max(timeline.greatest_clock());
+    /// timeline.trim(clock)?;
+    /// assert!(timeline.verdict(clock)?.is_complete());
+    /// assert!(!timeline.verdict(Millis(now))?.is_complete());
+    /// # Ok(())
+    /// # }
+    /// ```
     pub fn verdict(&self, clock: Millis) -> Result<Verdict, Refusal> {
         let mut out = [0; words::VERDICT_WORDS];
         let number = words::verdict(&self.record, &self.table, clock.0, &mut out);
@@ -290,6 +373,25 @@ impl Timeline {
     }
 
     /// The file of what is kept. Refusal [`NothingKept`](Refusal::NothingKept).
+    ///
+    /// A file keeps no greatest clock: who reads it back trims at the last clock first.
+    ///
+    /// ```
+    /// # use flonterri::{Head, Millis, Span, Tick, Timeline, Timescale};
+    /// # fn main() -> Result<(), flonterri::OpenError> {
+    /// let head = Head { depth: Millis(10_000), ..Head::new(Timescale(1000)) };
+    /// let mut timeline = Timeline::open(head, Tick(0), 10)?;
+    /// timeline.append(Tick(0), Span(4000), 5)?;
+    /// timeline.trim(Millis(18_000))?;
+    /// let file = timeline.write()?;
+    ///
+    /// let mut again = Timeline::read(&file, 10).expect("a file that was written");
+    /// assert_eq!(again.greatest_clock(), Millis(0));
+    /// again.trim(Millis(18_000))?;
+    /// assert_eq!(again.write()?, file);
+    /// # Ok(())
+    /// # }
+    /// ```
     pub fn write(&self) -> Result<Vec<u8>, Refusal> {
         let mut file = vec![0; HEAD_AND_END_BYTES + S_BYTES * self.runs().len()];
         let length = self.write_into(&mut file)?;
@@ -300,6 +402,19 @@ impl Timeline {
     /// Writes the file of what is kept to the front of an output and answers its length; what
     /// lies behind stays as it came. Refusals [`NothingKept`](Refusal::NothingKept),
     /// [`ShortOutput`](Refusal::ShortOutput).
+    ///
+    /// ```
+    /// # use flonterri::{Head, Refusal, Span, Tick, Timeline, Timescale};
+    /// # fn main() -> Result<(), flonterri::OpenError> {
+    /// let mut timeline = Timeline::open(Head::new(Timescale(1000)), Tick(0), 10)?;
+    /// timeline.append(Tick(0), Span(4000), 5)?;
+    /// let mut output = [b'#'; 200];
+    /// let length = timeline.write_into(&mut output)?;
+    /// assert_eq!(output[..length], timeline.write()?);
+    /// assert_eq!(timeline.write_into(&mut output[..length - 1]), Err(Refusal::ShortOutput));
+    /// # Ok(())
+    /// # }
+    /// ```
     pub fn write_into(&self, output: &mut [u8]) -> Result<usize, Refusal> {
         let mut out = [0; words::WRITE_WORDS];
         Refusal::judge(words::write(&self.record, &self.table, output, &mut out))?;
@@ -311,6 +426,15 @@ impl Timeline {
 /// What the record holds.
 impl Timeline {
     /// The head.
+    ///
+    /// ```
+    /// # use flonterri::{Head, Tick, Timeline, Timescale};
+    /// # fn main() -> Result<(), flonterri::OpenError> {
+    /// let head = Head::new(Timescale(1000));
+    /// assert_eq!(Timeline::open(head, Tick(0), 10)?.head(), head);
+    /// # Ok(())
+    /// # }
+    /// ```
     pub fn head(&self) -> Head {
         Head {
             timescale: Timescale(narrow(self.record[word::TIMESCALE], u32::MAX)),
@@ -323,46 +447,158 @@ impl Timeline {
     }
 
     /// How many references were accepted.
+    ///
+    /// ```
+    /// # use flonterri::{Head, Span, Tick, Timeline, Timescale};
+    /// # fn main() -> Result<(), flonterri::OpenError> {
+    /// let mut timeline = Timeline::open(Head::new(Timescale(1000)), Tick(0), 10)?;
+    /// timeline.append(Tick(0), Span(4000), 5)?;
+    /// assert_eq!(timeline.accepted(), 5);
+    /// # Ok(())
+    /// # }
+    /// ```
     pub fn accepted(&self) -> u64 {
         self.record[word::ACCEPTED]
     }
 
     /// How many of the accepted ones were dropped.
+    ///
+    /// ```
+    /// # use flonterri::{Head, Millis, Span, Tick, Timeline, Timescale};
+    /// # fn main() -> Result<(), flonterri::OpenError> {
+    /// let head = Head { depth: Millis(10_000), ..Head::new(Timescale(1000)) };
+    /// let mut timeline = Timeline::open(head, Tick(0), 10)?;
+    /// timeline.append(Tick(0), Span(4000), 5)?;
+    /// timeline.trim(Millis(18_000))?;
+    /// assert_eq!((timeline.accepted(), timeline.dropped()), (5, 2));
+    /// # Ok(())
+    /// # }
+    /// ```
     pub fn dropped(&self) -> u64 {
         self.record[word::DROPPED]
     }
 
     /// Where the next reference must start.
+    ///
+    /// ```
+    /// # use flonterri::{Head, Span, Tick, Timeline, Timescale};
+    /// # fn main() -> Result<(), flonterri::OpenError> {
+    /// let mut timeline = Timeline::open(Head::new(Timescale(1000)), Tick(0), 10)?;
+    /// timeline.append(Tick(0), Span(4000), 5)?;
+    /// assert_eq!(timeline.next_tick(), Tick(20_000));
+    /// # Ok(())
+    /// # }
+    /// ```
     pub fn next_tick(&self) -> Tick {
         Tick(self.record[word::NEXT_TICK])
     }
 
-    /// The greatest clock of all trims.
+    /// The greatest clock of all trims. A verdict at an earlier one is refused.
+    ///
+    /// ```
+    /// # use flonterri::{Head, Millis, Refusal, Span, Tick, Timeline, Timescale};
+    /// # fn main() -> Result<(), flonterri::OpenError> {
+    /// let head = Head { depth: Millis(10_000), ..Head::new(Timescale(1000)) };
+    /// let mut timeline = Timeline::open(head, Tick(0), 10)?;
+    /// timeline.append(Tick(0), Span(4000), 5)?;
+    /// timeline.trim(Millis(18_000))?;
+    /// timeline.trim(Millis(17_000))?;
+    /// assert_eq!(timeline.greatest_clock(), Millis(18_000));
+    /// assert_eq!(timeline.verdict(Millis(17_000)), Err(Refusal::EarlierClock));
+    /// # Ok(())
+    /// # }
+    /// ```
     pub fn greatest_clock(&self) -> Millis {
         Millis(self.record[word::GREATEST_CLOCK])
     }
 
     /// The number of the first kept reference: first number plus dropped. With nothing kept it is
     /// that of the next reference.
+    ///
+    /// ```
+    /// # use flonterri::{Head, Millis, Number, Span, Tick, Timeline, Timescale};
+    /// # fn main() -> Result<(), flonterri::OpenError> {
+    /// let head = Head { depth: Millis(10_000), ..Head::new(Timescale(1000)) };
+    /// let mut timeline = Timeline::open(head, Tick(0), 10)?;
+    /// timeline.append(Tick(0), Span(4000), 5)?;
+    /// assert_eq!(timeline.first_kept_number(), Number(0));
+    /// timeline.trim(Millis(18_000))?;
+    /// assert_eq!(timeline.first_kept_number(), Number(2));
+    /// # Ok(())
+    /// # }
+    /// ```
     pub fn first_kept_number(&self) -> Number {
         let number = self.record[word::FIRST_NUMBER].saturating_add(self.dropped());
         Number(narrow(number, u32::MAX))
     }
 
     /// How many runs are used.
+    ///
+    /// ```
+    /// # use flonterri::{Head, Span, Tick, Timeline, Timescale};
+    /// # fn main() -> Result<(), flonterri::OpenError> {
+    /// let mut timeline = Timeline::open(Head::new(Timescale(1000)), Tick(0), 10)?;
+    /// timeline.append(Tick(0), Span(4000), 5)?;
+    /// timeline.append(Tick(20_000), Span(4004), 1)?;
+    /// assert_eq!(timeline.runs_used(), 2);
+    /// # Ok(())
+    /// # }
+    /// ```
     pub fn runs_used(&self) -> usize {
         narrow(self.record[word::RUNS_USED], usize::MAX)
     }
 
     /// How many runs there is room for.
+    ///
+    /// ```
+    /// # use flonterri::{Head, Tick, Timeline, Timescale};
+    /// # fn main() -> Result<(), flonterri::OpenError> {
+    /// let timeline = Timeline::open(Head::new(Timescale(1000)), Tick(0), 10)?;
+    /// assert_eq!(timeline.capacity(), 10);
+    /// # Ok(())
+    /// # }
+    /// ```
     pub fn capacity(&self) -> usize {
         self.table.len() / RUN_WORDS
     }
 
     /// Every used run, oldest first.
+    ///
+    /// ```
+    /// # use flonterri::{Head, Run, Span, Tick, Timeline, Timescale};
+    /// # fn main() -> Result<(), flonterri::OpenError> {
+    /// let mut timeline = Timeline::open(Head::new(Timescale(1000)), Tick(0), 10)?;
+    /// timeline.append(Tick(0), Span(4000), 5)?;
+    /// let run = Run { start: Tick(0), duration: Span(4000), count: 5 };
+    /// assert!(timeline.runs().eq([run]));
+    /// # Ok(())
+    /// # }
+    /// ```
     pub fn runs(&self) -> Runs<'_> {
         let used = self.runs_used().saturating_mul(RUN_WORDS);
         Runs::of_words(self.table.get(..used).unwrap_or_default())
+    }
+
+    /// Every kept reference with its number and its ticks, oldest first.
+    ///
+    /// ```
+    /// # use flonterri::{Head, Millis, Number, Reference, Span, Tick, Timeline, Timescale};
+    /// # fn main() -> Result<(), flonterri::OpenError> {
+    /// let head = Head { depth: Millis(10_000), ..Head::new(Timescale(1000)) };
+    /// let mut timeline = Timeline::open(head, Tick(0), 10)?;
+    /// timeline.append(Tick(0), Span(4000), 5)?;
+    /// timeline.trim(Millis(18_000))?;
+    /// let mut references = timeline.references();
+    /// assert_eq!(references.len(), 3);
+    /// let first = Reference { number: Number(2), start: Tick(8000), duration: Span(4000) };
+    /// assert_eq!(references.next(), Some(first));
+    /// assert_eq!(references.next().map(|reference| reference.start), Some(first.end()));
+    /// # Ok(())
+    /// # }
+    /// ```
+    pub fn references(&self) -> References<'_> {
+        let kept = self.accepted().saturating_sub(self.dropped());
+        References::of_runs(self.runs(), self.first_kept_number(), kept)
     }
 }
 
@@ -394,24 +630,51 @@ impl Timeline {
         }
     }
 
-    /// The words of the record.
+    /// The words of the record, in the order that [`word`] tells.
+    ///
+    /// ```
+    /// # use flonterri::{words::word, Head, Span, Tick, Timeline, Timescale};
+    /// # fn main() -> Result<(), flonterri::OpenError> {
+    /// let mut timeline = Timeline::open(Head::new(Timescale(1000)), Tick(0), 10)?;
+    /// timeline.append(Tick(0), Span(4000), 5)?;
+    /// assert_eq!(timeline.record_words()[word::NEXT_TICK], 20_000);
+    /// # Ok(())
+    /// # }
+    /// ```
     pub fn record_words(&self) -> &[u64; RECORD_WORDS] {
         &self.record
     }
 
-    /// The words of the table.
+    /// The words of the table: three for each run, and zeros behind the used ones.
+    ///
+    /// ```
+    /// # use flonterri::{Head, Span, Tick, Timeline, Timescale};
+    /// # fn main() -> Result<(), flonterri::OpenError> {
+    /// let mut timeline = Timeline::open(Head::new(Timescale(1000)), Tick(0), 10)?;
+    /// timeline.append(Tick(0), Span(4000), 5)?;
+    /// assert_eq!(timeline.table_words()[..4], [0, 4000, 5, 0]);
+    /// # Ok(())
+    /// # }
+    /// ```
     pub fn table_words(&self) -> &[u64] {
         &self.table
     }
 }
 
-/// A table of so many runs, all of it 0. A number of runs that no memory holds is an error, not a
-/// smaller table and not the end of the program.
+/// A table of so many runs, all of it 0.
 fn table_of<Why>(runs: usize) -> Result<Vec<u64>, OpenError<Why>> {
+    let mut table = Vec::new();
+    lengthen(&mut table, runs)?;
+    Ok(table)
+}
+
+/// Puts zeros behind a table until it has room for so many runs. A number of runs that no memory
+/// holds is an error, not a smaller table and not the end of the program.
+fn lengthen<Why>(table: &mut Vec<u64>, runs: usize) -> Result<(), OpenError<Why>> {
     let no_memory = || OpenError::NoMemory { runs };
     let words = runs.checked_mul(RUN_WORDS).ok_or_else(no_memory)?;
-    let mut table = Vec::new();
-    table.try_reserve_exact(words).map_err(|_| no_memory())?;
-    table.resize(words, 0);
-    Ok(table)
+    let more = words.saturating_sub(table.len());
+    table.try_reserve_exact(more).map_err(|_| no_memory())?;
+    table.resize(table.len() + more, 0);
+    Ok(())
 }

@@ -244,7 +244,17 @@ pub fn agree(record: &[u64], table: &[u64]) -> bool {
 /// reads none.
 ///
 /// Refusal 1, which zeroes the record and leaves the table as it came; and 2 for the record's
-/// length alone.
+/// length alone, which leaves both as they came.
+///
+/// ```
+/// use flonterri::words::{self, RECORD_WORDS};
+///
+/// let (mut record, mut table) = ([7; RECORD_WORDS], [7; 30]);
+/// assert_eq!(words::open(&mut record, &mut table, 0, 0, 0, 0, 0, 1, 0), 1);
+/// assert_eq!((record, table), ([0; RECORD_WORDS], [7; 30]));
+/// assert_eq!(words::open(&mut record, &mut table, 1000, 0, 0, 0, 0, 1, 0), 0);
+/// assert_eq!(table, [0; 30]);
+/// ```
 #[allow(clippy::too_many_arguments)]
 pub fn open(
     record: &mut [u64],
@@ -279,6 +289,16 @@ pub fn open(
 /// Appends by full tick.
 ///
 /// Refusals 2, 3, 4 or 5, 6, 7, 8, 9, in this order; each leaves record and table as they came.
+///
+/// ```
+/// use flonterri::words::{self, RECORD_WORDS};
+///
+/// let (mut record, mut table) = ([0; RECORD_WORDS], [0; 30]);
+/// assert_eq!(words::open(&mut record, &mut table, 1000, 0, 0, 0, 10_000, 1, 0), 0);
+/// assert_eq!(words::append(&mut record, &mut table, 0, 4000, 5), 0);
+/// assert_eq!(table[..3], [0, 4000, 5]);
+/// assert_eq!(words::append(&mut record, &mut table, 24_000, 4000, 1), 4);
+/// ```
 pub fn append(record: &mut [u64], table: &mut [u64], start: u64, duration: u32, count: u32) -> u32 {
     // SAFETY: as for `open`: two unique slices with their lengths, no pointer kept.
     unsafe {
@@ -297,6 +317,16 @@ pub fn append(record: &mut [u64], table: &mut [u64], start: u64, duration: u32, 
 /// Appends by stamp.
 ///
 /// Refusals 2, 3, 4 or 5, 6, 7, 8, 9, in this order; each leaves record and table as they came.
+///
+/// ```
+/// use flonterri::words::{self, RECORD_WORDS};
+///
+/// let (mut record, mut table) = ([0; RECORD_WORDS], [0; 30]);
+/// let first_tick = 4_294_970_000;
+/// assert_eq!(words::open(&mut record, &mut table, 1000, 0, 0, 0, 0, 1, first_tick), 0);
+/// assert_eq!(words::append_stamp(&mut record, &mut table, 2703, 1, 1), 5);
+/// assert_eq!(words::append_stamp(&mut record, &mut table, 2704, 1, 1), 0);
+/// ```
 pub fn append_stamp(
     record: &mut [u64],
     table: &mut [u64],
@@ -321,6 +351,16 @@ pub fn append_stamp(
 /// Trims at a clock.
 ///
 /// Refusals 2, 10, in this order; each leaves record and table as they came.
+///
+/// ```
+/// use flonterri::words::{self, RECORD_WORDS};
+///
+/// let (mut record, mut table) = ([0; RECORD_WORDS], [0; 30]);
+/// assert_eq!(words::open(&mut record, &mut table, 1000, 0, 0, 0, 10_000, 1, 0), 0);
+/// assert_eq!(words::append(&mut record, &mut table, 0, 4000, 5), 0);
+/// assert_eq!(words::trim(&mut record, &mut table, 18_000), 0);
+/// assert_eq!(table[..3], [8000, 4000, 3]);
+/// ```
 pub fn trim(record: &mut [u64], table: &mut [u64], clock: u64) -> u32 {
     // SAFETY: as for `open`: two unique slices with their lengths, no pointer kept.
     unsafe {
@@ -338,6 +378,17 @@ pub fn trim(record: &mut [u64], table: &mut [u64], clock: u64) -> u32 {
 /// tells.
 ///
 /// Refusals 2, 10, 11, in this order, and 15 for the length of `out`; each leaves `out` as it came.
+///
+/// ```
+/// use flonterri::words::{self, RECORD_WORDS};
+///
+/// let (mut record, mut table) = ([0; RECORD_WORDS], [0; 30]);
+/// assert_eq!(words::open(&mut record, &mut table, 1000, 0, 0, 0, 10_000, 1, 0), 0);
+/// assert_eq!(words::append(&mut record, &mut table, 0, 4000, 5), 0);
+/// let mut out = [0; words::VERDICT_WORDS];
+/// assert_eq!(words::verdict(&record, &table, 20_001, &mut out), 0);
+/// assert_eq!(out, [words::verdict_kind::LACKING, 10_000, 9_999, 20_000, 99]);
+/// ```
 pub fn verdict(record: &[u64], table: &[u64], clock: u64, out: &mut [u64]) -> u32 {
     // SAFETY: two slices that are only read and one that is borrowed uniquely, each with its own
     // length; the function keeps no pointer.
@@ -357,6 +408,16 @@ pub fn verdict(record: &[u64], table: &[u64], clock: u64, out: &mut [u64]) -> u3
 /// The verdict of the whole period, `out` as for [`verdict`].
 ///
 /// Refusals 2, 19, in this order, and 15 for the length of `out`; each leaves `out` as it came.
+///
+/// ```
+/// use flonterri::words::{self, RECORD_WORDS};
+///
+/// let (mut record, mut table) = ([0; RECORD_WORDS], [0; 30]);
+/// assert_eq!(words::open(&mut record, &mut table, 3, 0, 0, 500, 0, 0, 0), 0);
+/// let mut out = [0; words::VERDICT_WORDS];
+/// assert_eq!(words::verdict_whole(&record, &table, &mut out), 0);
+/// assert_eq!(out, [words::verdict_kind::LACKING, 2, 0, 0, 0]);
+/// ```
 pub fn verdict_whole(record: &[u64], table: &[u64], out: &mut [u64]) -> u32 {
     // SAFETY: as for `verdict`: two slices only read, one unique, no pointer kept.
     unsafe {
@@ -376,6 +437,18 @@ pub fn verdict_whole(record: &[u64], table: &[u64], out: &mut [u64]) -> u32 {
 ///
 /// Refusals 2, 13, in this order, and 15 for the length of `out`; each leaves `out` as it came. A
 /// number that no kept reference has is 13, whatever its size; so is each over 2^32 - 1.
+///
+/// ```
+/// use flonterri::words::{self, RECORD_WORDS};
+///
+/// let (mut record, mut table) = ([0; RECORD_WORDS], [0; 30]);
+/// assert_eq!(words::open(&mut record, &mut table, 1000, 0, 0, 0, 10_000, 1, 0), 0);
+/// assert_eq!(words::append(&mut record, &mut table, 0, 4000, 5), 0);
+/// let mut out = [0; words::AVAILABILITY_WORDS];
+/// assert_eq!(words::availability(&record, &table, 3, &mut out), 0);
+/// assert_eq!(out, [words::availability_kind::ENDS, 12_000_000, 26_000_000]);
+/// assert_eq!(words::availability(&record, &table, 6, &mut out), 13);
+/// ```
 pub fn availability(record: &[u64], table: &[u64], number: u64, out: &mut [i64]) -> u32 {
     // SAFETY: as for `verdict`: two slices only read, one unique, no pointer kept.
     unsafe {
@@ -395,6 +468,17 @@ pub fn availability(record: &[u64], table: &[u64], number: u64, out: &mut [i64])
 /// order that [`touching_word`] tells.
 ///
 /// Refusals 2, 14, in this order, and 15 for the length of `out`; each leaves `out` as it came.
+///
+/// ```
+/// use flonterri::words::{self, RECORD_WORDS};
+///
+/// let (mut record, mut table) = ([0; RECORD_WORDS], [0; 30]);
+/// assert_eq!(words::open(&mut record, &mut table, 1000, 0, 0, 0, 10_000, 1, 0), 0);
+/// assert_eq!(words::append(&mut record, &mut table, 0, 4000, 5), 0);
+/// let mut out = [0; words::TOUCHING_WORDS];
+/// assert_eq!(words::touching(&record, &table, 19_999, 30_000, &mut out), 0);
+/// assert_eq!(out, [0, 3]);
+/// ```
 pub fn touching(record: &[u64], table: &[u64], a: u64, b: u64, out: &mut [u64]) -> u32 {
     // SAFETY: as for `verdict`: two slices only read, one unique, no pointer kept.
     unsafe {
@@ -417,6 +501,14 @@ pub fn touching(record: &[u64], table: &[u64], a: u64, b: u64, out: &mut [u64]) 
 /// Refusals 1, 3 to 9, 16, 17, 18 by a line: the first refused line decides, and on a line 16 comes
 /// first, then 17, then its fields. Each zeroes record and table and puts the line into `out`. And
 /// for the lengths alone 2, then 15, which leave record, table and `out` as they came.
+///
+/// ```
+/// use flonterri::words::{self, RECORD_WORDS};
+///
+/// let (mut record, mut table, mut out) = ([7; RECORD_WORDS], [7; 30], [0]);
+/// assert_eq!(words::read(b"not a file\n", &mut record, &mut table, &mut out), 16);
+/// assert_eq!((record, table, out), ([0; RECORD_WORDS], [0; 30], [1]));
+/// ```
 pub fn read(bytes: &[u8], record: &mut [u64], table: &mut [u64], out: &mut [u64]) -> u32 {
     // SAFETY: one slice that is only read and three that are borrowed uniquely, each with its own
     // length; the function keeps no pointer.
@@ -439,6 +531,18 @@ pub fn read(bytes: &[u8], record: &mut [u64], table: &mut [u64], out: &mut [u64]
 ///
 /// Refusals 2, 12, 15, in this order: 15 for bytes that are fewer than the file's, and before all
 /// but the record's length for that of `out`. Each leaves the bytes and `out` as they came.
+///
+/// ```
+/// use flonterri::words::{self, RECORD_WORDS};
+///
+/// let (mut record, mut table) = ([0; RECORD_WORDS], [0; 30]);
+/// assert_eq!(words::open(&mut record, &mut table, 1000, 0, 0, 0, 10_000, 1, 0), 0);
+/// assert_eq!(words::append(&mut record, &mut table, 0, 4000, 5), 0);
+/// let (mut bytes, mut out) = ([0; 200], [0]);
+/// assert_eq!(words::write(&record, &table, &mut bytes, &mut out), 0);
+/// assert_eq!(out, [83 + 35 + 11]);
+/// assert_eq!(bytes[..10], *b"01000003e8");
+/// ```
 pub fn write(record: &[u64], table: &[u64], bytes: &mut [u8], out: &mut [u64]) -> u32 {
     // SAFETY: two slices that are only read and two that are borrowed uniquely, each with its own
     // length; the function keeps no pointer.

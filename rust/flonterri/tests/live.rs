@@ -1,0 +1,229 @@
+//! A live channel, as the README tells an operator to run it: which clock to ask, how the table grows,
+//! what is kept.
+
+use flonterri::words::{self, RECORD_WORDS};
+use flonterri::{
+    Grain, Head, Millis, Number, OpenError, Reference, Refusal, Span, Stamp, Tick, Timeline,
+    Timescale, Verdict,
+};
+
+type Outcome = Result<(), OpenError>;
+
+/// A head of 1000 ticks a second with a rewind window of ten seconds.
+fn ten_seconds() -> Head {
+    Head {
+        depth: Millis(10_000),
+        first_number: Number(1),
+        ..Head::new(Timescale(1000))
+    }
+}
+
+/// The verdicts of ten minutes, one a second, each so many milliseconds before now. Segments last 4 s
+/// and come 700 ms after their end.
+fn ten_minutes(back: u64) -> Result<Vec<Verdict>, OpenError> {
+    let mut timeline = Timeline::open(ten_seconds(), Tick(0), 10)?;
+    let mut verdicts = Vec::new();
+    for now in (0..600_000).step_by(1000) {
+        while timeline.next_tick().0 + 4000 + 700 <= now {
+            timeline.append(timeline.next_tick(), Span(4000), 1)?;
+        }
+        let clock = Millis(now.saturating_sub(back));
+        timeline.trim(clock)?;
+        verdicts.push(timeline.verdict(clock)?);
+    }
+    Ok(verdicts)
+}
+
+#[test]
+fn asked_at_now_nothing_is_ever_complete() -> Outcome {
+    assert!(!ten_minutes(0)?.iter().any(|verdict| verdict.is_complete()));
+    Ok(())
+}
+
+#[test]
+fn asked_as_late_as_segments_come_all_is_complete() -> Outcome {
+    let verdicts = ten_minutes(4700)?;
+    let empty = |verdict: &&Verdict| **verdict == Verdict::NothingNeeded;
+    assert_eq!(verdicts.iter().take_while(empty).count(), 5);
+    assert!(verdicts[5..].iter().all(|verdict| verdict.is_complete()));
+    Ok(())
+}
+
+/// A clock that steps back: a trim takes it and changes nothing, a verdict refuses it, and the later of
+/// it and the greatest clock is answered.
+#[test]
+fn a_clock_that_steps_back() -> Outcome {
+    let mut timeline = Timeline::open(ten_seconds(), Tick(0), 10)?;
+    timeline.append(Tick(0), Span(4000), 5)?;
+    timeline.trim(Millis(18_000))?;
+    let before = timeline.clone();
+    let back = Millis(17_000);
+    timeline.trim(back)?;
+    assert_eq!(timeline, before);
+    assert_eq!(timeline.verdict(back), Err(Refusal::EarlierClock));
+    let verdict = timeline.verdict(back.max(timeline.greatest_clock()))?;
+    assert!(verdict.is_complete());
+    Ok(())
+}
+
+/// Read back after a restart, a clock before the last trim is answered, by what is left.
+#[test]
+fn a_restart_forgets_the_greatest_clock() -> Outcome {
+    let mut timeline = Timeline::open(ten_seconds(), Tick(0), 10)?;
+    timeline.append(Tick(0), Span(4000), 5)?;
+    assert!(timeline.verdict(Millis(14_000))?.is_complete());
+    timeline.trim(Millis(18_000))?;
+    let mut again = Timeline::read(&timeline.write()?, 10).expect("a file that was written");
+    let early = again.verdict(Millis(14_000))?;
+    assert_eq!(early.to_string(), "lacking 4000 6000/10000 60%");
+    again.trim(Millis(18_000))?;
+    let early = again.verdict(Millis(14_000));
+    assert_eq!(early, Err(Refusal::EarlierClock));
+    Ok(())
+}
+
+/// A later origin: the same milliseconds taken off the period start and off the clock change no verdict.
+#[test]
+fn a_later_origin_changes_no_verdict() -> Outcome {
+    let origin = 99_000_000_000;
+    let from_then = Head {
+        start: Millis(origin + 30_000),
+        ..ten_seconds()
+    };
+    let from_origin = Head {
+        start: Millis(30_000),
+        ..ten_seconds()
+    };
+    let mut then = Timeline::open(from_then, Tick(0), 10)?;
+    let mut rebased = Timeline::open(from_origin, Tick(0), 10)?;
+    for timeline in [&mut then, &mut rebased] {
+        timeline.append(Tick(0), Span(4000), 5)?;
+    }
+    for clock in [0, 30_000, 30_001, 44_000, 50_000, 50_001, 80_000] {
+        let verdict = rebased.verdict(Millis(clock))?;
+        assert_eq!(then.verdict(Millis(origin + clock))?, verdict);
+    }
+    Ok(())
+}
+
+/// A period that began in 1970: the origin is its start, and the tick that stands there its offset.
+#[test]
+fn a_period_that_began_long_ago() -> Outcome {
+    let origin_seconds = 1_789_000_000;
+    let head = Head {
+        offset: Tick(origin_seconds * 90_000),
+        depth: Millis(10_000),
+        ..Head::new(Timescale(90_000))
+    };
+    let first = Tick((origin_seconds + 1_000_000) * 90_000);
+    let mut timeline = Timeline::open(head, first, 10)?;
+    timeline.append_stamp(Stamp(first.0 as u32), Span(180_000), 10)?;
+    let now = (origin_seconds + 1_000_020) * 1000;
+    let clock = Millis(now - origin_seconds * 1000);
+    let verdict = timeline.verdict(clock)?;
+    assert_eq!(verdict, Verdict::Complete { needed: 900_000 });
+    assert_eq!(timeline.verdict(Millis(now)), Err(Refusal::ClockLimit));
+    Ok(())
+}
+
+/// Durations that alternate cost a run each: 1,024 runs hold 34 minutes of two-second segments.
+#[test]
+fn alternating_durations_fill_a_table() -> Outcome {
+    let mut timeline = Timeline::open(Head::new(Timescale(90_000)), Tick(0), 1024)?;
+    for duration in [180_000, 180_180].into_iter().cycle().take(1024) {
+        timeline.append(timeline.next_tick(), Span(duration), 1)?;
+    }
+    assert_eq!(timeline.next_tick().0 / 90_000 / 60, 34);
+    let next = timeline.next_tick();
+    let full = timeline.append(next, Span(180_000), 1);
+    assert_eq!(full, Err(Refusal::NoRunLeft));
+    timeline.grow(2048)?;
+    timeline.append(next, Span(180_000), 1)?;
+    assert_eq!(timeline.runs_used(), 1025);
+    Ok(())
+}
+
+#[test]
+fn a_grown_table_holds_the_same() -> Outcome {
+    let mut timeline = Timeline::open(ten_seconds(), Tick(0), 2)?;
+    timeline.append(Tick(0), Span(4000), 5)?;
+    timeline.append(Tick(20_000), Span(1000), 2)?;
+    timeline.trim(Millis(18_000))?;
+    let before = timeline.clone();
+    for runs in [0, 1, 2] {
+        timeline.grow(runs)?;
+        assert_eq!(timeline, before);
+    }
+    timeline.grow(100)?;
+    assert_eq!(
+        (timeline.capacity(), timeline.table_words().len()),
+        (100, 300)
+    );
+    assert!(words::agree(
+        timeline.record_words(),
+        timeline.table_words()
+    ));
+    assert_eq!(timeline.record_words(), before.record_words());
+    assert!(timeline.runs().eq(before.runs()));
+    assert_eq!(timeline.write()?, before.write()?);
+    Ok(())
+}
+
+/// A table may have a word or two that make no run.
+#[test]
+fn a_table_of_odd_length_grows() -> Outcome {
+    for odd in [1, 2] {
+        let (mut record, mut table) = ([0; RECORD_WORDS], vec![0; odd]);
+        let opened = words::open(&mut record, &mut table, 1000, 0, 0, 0, 0, 1, 0);
+        assert_eq!(opened, 0);
+        let mut timeline = Timeline::of_words(record, table)?;
+        timeline.grow(0)?;
+        assert_eq!(timeline.table_words().len(), odd);
+        timeline.grow(1)?;
+        timeline.append(Tick(0), Span(4000), 5)?;
+        assert_eq!(timeline.table_words(), [0, 4000, 5]);
+    }
+    Ok(())
+}
+
+#[test]
+fn no_memory_to_grow() -> Outcome {
+    let mut timeline = Timeline::open(ten_seconds(), Tick(0), 2)?;
+    timeline.append(Tick(0), Span(4000), 5)?;
+    let before = timeline.clone();
+    for runs in [usize::MAX, usize::MAX / 3 + 1, usize::MAX / 24 + 1, 1 << 55] {
+        assert_eq!(timeline.grow(runs), Err(OpenError::NoMemory { runs }));
+        assert_eq!(timeline, before);
+    }
+    Ok(())
+}
+
+#[test]
+fn kept_references_by_number_and_tick() -> Outcome {
+    let mut timeline = Timeline::open(ten_seconds(), Tick(0), 10)?;
+    assert_eq!(timeline.references().next(), None);
+    timeline.append(Tick(0), Span(4000), 5)?;
+    timeline.append(Tick(20_000), Span(1000), 2)?;
+    timeline.trim(Millis(22_000))?;
+    let all = [
+        (4, 12_000, 4000),
+        (5, 16_000, 4000),
+        (6, 20_000, 1000),
+        (7, 21_000, 1000),
+    ];
+    let expected = all.map(|(number, start, duration)| Reference {
+        number: Number(number),
+        start: Tick(start),
+        duration: Span(duration),
+    });
+    let mut references = timeline.references();
+    for (at, reference) in expected.into_iter().enumerate() {
+        assert_eq!(references.len(), expected.len() - at);
+        assert_eq!(references.next(), Some(reference));
+        let available = timeline.availability(reference.number)?;
+        assert_eq!(available.start, Grain(reference.end().0 as i64 * 1000));
+    }
+    assert_eq!((references.len(), references.next()), (0, None));
+    assert_eq!(expected[3].end(), timeline.next_tick());
+    Ok(())
+}
