@@ -5,7 +5,7 @@ use mathlib.Core.Bool.{Bool, true, false, cond, true≢false, false≢true}
 use mathlib.Core.List.{List, [], _∷_, _++_, append-assoc, append-nil}
 use Prim.Native.Nat.{ℕ}
 use native.Mathlib.Omega.{arith}
-use borrow.Author.Tests.{eq-eqb, ne-eqb, eqb-true, eqb-false, leb-true, leb-false}
+use borrow.Author.Tests.{ne-eqb, eqb-true, eqb-false, leb-true, leb-false}
 use lib.Dec.{eqb, leb}
 use lib.ListN.{length, take, length-take}
 use lib.Seq.{take-all}
@@ -18,24 +18,14 @@ use Rattle.file.proofs.SoFar.{first-more}
 
 -- ---- one byte
 
-module _ (b : List ℕ) (y : ℕ) (ys : List ℕ) where
-  module _ (e : y ≡ lineFeed) where
-    pub lines-ended : linesFrom b (y ∷ ys) ≡ b ∷ linesFrom [] ys
-    unfolding linesFrom
-    lines-ended = ap (λ t. cond t (b ∷ linesFrom [] ys) (linesFrom (b ++ y ∷ []) ys)) (eq-eqb y lineFeed e)
+module _ (b : List ℕ) (y : ℕ) (ys : List ℕ) (n : y ≡ lineFeed → ⊥) where
+  lines-on : linesFrom b (y ∷ ys) ≡ linesFrom (b ++ y ∷ []) ys
+  unfolding linesFrom
+  lines-on = ap (λ t. cond t (b ∷ linesFrom [] ys) (linesFrom (b ++ y ∷ []) ys)) (ne-eqb y lineFeed n)
 
-    pub rest-ended : restFrom b (y ∷ ys) ≡ restFrom [] ys
-    unfolding restFrom
-    rest-ended = ap (λ t. cond t (restFrom [] ys) (restFrom (b ++ y ∷ []) ys)) (eq-eqb y lineFeed e)
-
-  module _ (n : y ≡ lineFeed → ⊥) where
-    pub lines-on : linesFrom b (y ∷ ys) ≡ linesFrom (b ++ y ∷ []) ys
-    unfolding linesFrom
-    lines-on = ap (λ t. cond t (b ∷ linesFrom [] ys) (linesFrom (b ++ y ∷ []) ys)) (ne-eqb y lineFeed n)
-
-    pub rest-on : restFrom b (y ∷ ys) ≡ restFrom (b ++ y ∷ []) ys
-    unfolding restFrom
-    rest-on = ap (λ t. cond t (restFrom [] ys) (restFrom (b ++ y ∷ []) ys)) (ne-eqb y lineFeed n)
+  rest-on : restFrom b (y ∷ ys) ≡ restFrom (b ++ y ∷ []) ys
+  unfolding restFrom
+  rest-on = ap (λ t. cond t (restFrom [] ys) (restFrom (b ++ y ∷ []) ys)) (ne-eqb y lineFeed n)
 
 -- ---- pieces
 
@@ -123,17 +113,16 @@ one-cut (l ∷ ls) r a u =
 
 -- ---- the next line, by the first feed
 
-module _ where
-  go-fed : (b : List ℕ) (x : ℕ) (xs : List ℕ) → ((c : List ℕ) → hasFeed xs ≡ true → linesFrom c xs ≡ (c ++ firstLine xs) ∷ linesFrom [] (behindFirst xs)) → (t : Bool) →
-      cond t true (hasFeed xs) ≡ true →
-      cond t (b ∷ linesFrom [] xs) (linesFrom (b ++ x ∷ []) xs) ≡ (b ++ cond t [] (x ∷ firstLine xs)) ∷ linesFrom [] (cond t xs (behindFirst xs))
-  go-fed b x xs f true h = ap (λ l. l ∷ linesFrom [] xs) (sym (append-nil b))
-  go-fed b x xs f false h = f (b ++ x ∷ []) h ∙ ap (λ l. l ∷ linesFrom [] (behindFirst xs)) (append-assoc b (x ∷ []) (firstLine xs))
+next-line : (b : List ℕ) (x : ℕ) (xs : List ℕ) → ((c : List ℕ) → hasFeed xs ≡ true → linesFrom c xs ≡ (c ++ firstLine xs) ∷ linesFrom [] (behindFirst xs)) → (t : Bool) →
+    cond t true (hasFeed xs) ≡ true →
+    cond t (b ∷ linesFrom [] xs) (linesFrom (b ++ x ∷ []) xs) ≡ (b ++ cond t [] (x ∷ firstLine xs)) ∷ linesFrom [] (cond t xs (behindFirst xs))
+next-line b x xs f true h = ap (λ l. l ∷ linesFrom [] xs) (sym (append-nil b))
+next-line b x xs f false h = f (b ++ x ∷ []) h ∙ ap (λ l. l ∷ linesFrom [] (behindFirst xs)) (append-assoc b (x ∷ []) (firstLine xs))
 
 pub lines-first : (b bytes : List ℕ) → hasFeed bytes ≡ true → linesFrom b bytes ≡ (b ++ firstLine bytes) ∷ linesFrom [] (behindFirst bytes)
 unfolding linesFrom hasFeed firstLine behindFirst
 lines-first b [] h = absurd (false≢true h)
-lines-first b (x ∷ xs) h = go-fed b x xs (λ c k. lines-first c xs k) (eqb x lineFeed) h
+lines-first b (x ∷ xs) h = next-line b x xs (λ c k. lines-first c xs k) (eqb x lineFeed) h
 
 pub rest-first : (b bytes : List ℕ) → hasFeed bytes ≡ true → restFrom b bytes ≡ restFrom [] (behindFirst bytes)
 unfolding restFrom hasFeed behindFirst

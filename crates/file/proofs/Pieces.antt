@@ -15,7 +15,7 @@ use Rattle.file.specs.declared.LineSoFar.{LineSoFar}
 use Rattle.file.specs.declared.Reader.{Reader}
 use Rattle.file.specs.Lines.{linesFrom, restFrom, restOf}
 use Rattle.file.specs.Judging.{File, takeLines, readLines, readOutcome, answeredBy, readAnswer, zeroed, readTable}
-use Rattle.file.specs.SoFar.{mostBytes, soFar, firstBytes, proper}
+use Rattle.file.specs.SoFar.{mostBytes, soFar, firstBytes}
 use Rattle.file.specs.Feeding.{stageHeld, belongs, begunReader, fedFile, fedReader, fedTable, finishOutcome, finishAnswer, finishTable, readerAfter, tableAfter, Fed, fedOn, fedPieces, AnyCut}
 use Rattle.file.proofs.Cutting.{rest-append, read-append, same-lines, same-rest}
 use Rattle.file.proofs.SoFar.{same-line, first-bytes, is-proper}

@@ -2,7 +2,7 @@
 use mathlib.Core.Path.{_≡_, refl, sym, ap, ap₂, _∙_}
 use mathlib.Core.Bool.{Bool, true, false, cond, false≢true}
 use mathlib.Core.List.{List, [], _∷_, _++_}
-use Prim.Native.Nat.{ℕ, _≤_, _<_, min}
+use Prim.Native.Nat.{ℕ, _≤_, min}
 use native.Mathlib.Omega.{arith}
 use borrow.Author.Tests.{ne-eqb, leb-true}
 use lib.Dec.{leb}
@@ -27,7 +27,7 @@ use Rattle.file.specs.Judging.{File, refused, onNothing, onHeaded, onOpe
 use Rattle.file.specs.SoFar.{mostBytes, soFar, tooLong}
 use Rattle.file.specs.Feeding.{readerAfter}
 use Rattle.file.specs.Settled.{stageSettled, readerSettled, SettledFile}
-use Rattle.file.proofs.Cutting.{no-line, lines-first, rest-first, unfed-unended, rest-append, read-append}
+use Rattle.file.proofs.Cutting.{no-line, lines-first, unfed-unended, rest-append, read-append}
 
 -- ---- the test of the code
 

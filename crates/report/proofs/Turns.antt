@@ -8,11 +8,11 @@ use lib.ListN.{length, take, drop}
 use lib.Seq.{take-at}
 use Rattle.report.specs.declared.Desk.{Desk}
 use Rattle.report.specs.declared.Stopped.{Stopped}
-use Rattle.report.specs.declared.Stopped.the-variants.{Ended, Settled}
+use Rattle.report.specs.declared.Stopped.the-variants.{Ended, Settled, Failed}
 use Rattle.report.specs.declared.Fed.{Fed}
 use Rattle.report.specs.Text.{textOf}
 use Rattle.report.specs.Answer.{tableLength, answer}
-use Rattle.report.specs.Feeding.{DeskAndTable, over, begunDesk, fed, replyBy, fedAll, afterAll}
+use Rattle.report.specs.Feeding.{DeskAndTable, over, begunDesk, fed, replyBy, fedAll}
 use Rattle.report.specs.Settled.{settled}
 use Rattle.report.specs.Running.{Brought, Reads, Tells, Answered}
 use Rattle.report.proofs.Told.{told-within}
@@ -59,6 +59,9 @@ module _ (came table buffer : List ℕ) (d : Desk) (h : Turned came table buffer
   -- the reads stop
   pub reads-ended : Reads came (record { desk = d; stopped = Ended }) table
   reads-ended = record { brought = h .brought; settles = λ e. let z : _≡_ {A = ℕ} 0 1 = cc in let w : ⊥ = omega arith in absurd w }
+
+  pub reads-failed : Reads came (record { desk = d; stopped = Failed }) table
+  reads-failed = record { brought = h .brought; settles = λ e. let z : _≡_ {A = ℕ} 0 1 = cc in let w : ⊥ = omega arith in absurd w }
 
   pub reads-settled : (piece : List ℕ) (x : Desk) (vs : List ℕ) → x ≡ fed d table piece .desk → vs ≡ fed d table piece .words → (t : Bool) → t ≡ settled x → t ≡ true →
       Reads came (record { desk = x; stopped = Settled }) vs

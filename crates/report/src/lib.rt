@@ -40,10 +40,11 @@ pub struct Desk {
     pub reader: file::Reader,
 }
 
-// Why the program stopped reading: its input has ended, or its answer is settled.
+// Why the program stopped reading: its input has ended, its answer is settled, or a read failed.
 pub enum Stopped {
     Ended,
     Settled,
+    Failed,
 }
 
 // The desk when the reads stopped, and why they did.

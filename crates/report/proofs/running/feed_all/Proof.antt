@@ -1,6 +1,6 @@
 -- `feed_all` meets its contract. The loop's invariant: some pieces brought desk and table where they stand. The measure is the turns left.
 use borrow.Author.Needs.{needs}
-use Rattle.report.proofs.Turns.{Turned, turned-none, turned-more, reads-ended, reads-settled}
+use Rattle.report.proofs.Turns.{Turned, turned-none, turned-more, reads-ended, reads-failed, reads-settled}
 use Rattle.report.proofs.running.feed_all.Statement.{statement}
 use Rattle.report.proofs.running.feed_all.Tie as tie
 
@@ -22,6 +22,8 @@ feed-all-spec =
     (λ c. search needs)
     (λ c κs. search needs)
     (λ c. search needs)
+    (λ c. search (needs, reads-failed))
+    (λ c. search needs)
     (λ c κs. search needs)
     (λ c. search needs)
     (λ c. search (needs, reads-ended))
@@ -35,4 +37,4 @@ feed-all-spec =
     (λ c. search needs)
     (λ c. search (needs, turned-more))
     (λ c. search needs)
-    (λ c. search (needs, reads-ended)))
+    (λ c. search (needs, reads-failed)))
