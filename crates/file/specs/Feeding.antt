@@ -5,7 +5,7 @@
 use Prim.Native.Nat.{ℕ, _+_, _^_}
 use mathlib.Core.Path.{_≡_}
 use mathlib.Core.Bool.{Bool, true, cond, _&&_}
-use mathlib.Core.List.{List, [], _∷_, flatten as joined}
+use mathlib.Core.List.{List, [], _∷_, flatten as allBytes}
 use lib.Dec.{eqb, leb}
 use Rattle.window.specs.Limits.{headHeld}
 use Rattle.agreement.specs.declared.refusal.Refusal.the-variants.{Disagreement}
@@ -101,12 +101,12 @@ fedPieces came pieces = fedOn (record { reader = begunReader; words = came }) pi
 pub record AnyCut : Type 0 where
   -- begin, a feed for each piece and finish: the answer of reading all the bytes at once
   pub answer : (came : List ℕ) (pieces : List (List ℕ)) →
-      finishAnswer (fedPieces came pieces .reader) (fedPieces came pieces .words) ≡ readAnswer (joined pieces) came
+      finishAnswer (fedPieces came pieces .reader) (fedPieces came pieces .words) ≡ readAnswer (allBytes pieces) came
   -- and every word of the table
   pub table : (came : List ℕ) (pieces : List (List ℕ)) →
-      finishTable (fedPieces came pieces .reader) (fedPieces came pieces .words) ≡ readTable (joined pieces) came
+      finishTable (fedPieces came pieces .reader) (fedPieces came pieces .words) ≡ readTable (allBytes pieces) came
   -- on the way reader and table stand where the bytes so far bring them, so another cut of the same bytes changes nothing
   pub between : (came : List ℕ) (pieces : List (List ℕ)) →
-      fedPieces came pieces ≡ record { reader = readerAfter (joined pieces) came; words = tableAfter (joined pieces) came }
+      fedPieces came pieces ≡ record { reader = readerAfter (allBytes pieces) came; words = tableAfter (allBytes pieces) came }
   -- and they belong together there: no feed is left out, and the end does not answer 2
   pub together : (came : List ℕ) (pieces : List (List ℕ)) → belongs (fedPieces came pieces .reader) (fedPieces came pieces .words) ≡ true

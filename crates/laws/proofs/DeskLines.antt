@@ -10,13 +10,13 @@ use Rattle.answers.specs.declared.Verdict.the-variants as verdict
 use Rattle.answers.specs.Shares.{percentOf, percentNumber}
 use Rattle.hex.specs.Ascii.{ascii}
 use Rattle.file.specs.Lines.{lineFeed}
-use Rattle.report.specs.Text.{decimalBy, decimal, shareText, verdictText, goesOn, readFrom}
+use Rattle.report.specs.Text.{decimalBy, decimal, shareText, verdictText, beginsWithDigit, readFrom}
 use Rattle.report.proofs.Figures.{figures}
 use Rattle.laws.specs.Desk.{completeLine, lackingLine, refusedLine}
 
 -- ---- two numbers, each in front of some bytes that are no digits
 
-same-number : (m n : ℕ) (xs ys : List ℕ) → goesOn xs ≡ false → goesOn ys ≡ false → decimal m ++ xs ≡ decimal n ++ ys → (m ≡ n) × (xs ≡ ys)
+same-number : (m n : ℕ) (xs ys : List ℕ) → beginsWithDigit xs ≡ false → beginsWithDigit ys ≡ false → decimal m ++ xs ≡ decimal n ++ ys → (m ≡ n) × (xs ≡ ys)
 same-number m n xs ys a b e =
     let k : m ≡ n = sym (figures .read m xs a) ∙ ap (readFrom 0) e ∙ figures .read n ys b in (
       k,

@@ -1,7 +1,7 @@
 -- THE THEOREM: in whatever pieces an input comes, desk and table stand where the whole of it brings them, and the reply is the reply to the whole.
 use mathlib.Core.Path.{_≡_, refl, sym, ap, ap₂, _∙_}
 use mathlib.Core.Bool.{Bool, true, false, cond}
-use mathlib.Core.List.{List, [], _∷_, _++_, flatten as joined, append-assoc, append-nil}
+use mathlib.Core.List.{List, [], _∷_, _++_, flatten as allBytes, append-assoc, append-nil}
 use Prim.Native.Nat.{ℕ}
 use lib.ListN.{length, replicate, length-replicate}
 use Rattle.file.specs.declared.LineSoFar.{LineSoFar}
@@ -132,15 +132,15 @@ module _ (came : List ℕ) where
           line-more (firstLine input) came piece ∙
           behind (hasFeed piece) refl e
 
-  after-all : (input : List ℕ) (pieces : List (List ℕ)) → fedAll (after came input) pieces ≡ after came (input ++ joined pieces)
-  unfolding fedAll joined
+  after-all : (input : List ℕ) (pieces : List (List ℕ)) → fedAll (after came input) pieces ≡ after came (input ++ allBytes pieces)
+  unfolding fedAll allBytes
   after-all input [] = ap (after came) (sym (append-nil input))
   after-all input (piece ∷ pieces) =
       ap (λ (s : DeskAndTable). fedAll s pieces) (after-more input piece) ∙
       after-all (input ++ piece) pieces ∙
-      ap (after came) (append-assoc input piece (joined pieces))
+      ap (after came) (append-assoc input piece (allBytes pieces))
 
-  pub stands : (pieces : List (List ℕ)) → afterAll came pieces ≡ after came (joined pieces)
+  pub stands : (pieces : List (List ℕ)) → afterAll came pieces ≡ after came (allBytes pieces)
   stands pieces = ap (λ (s : DeskAndTable). fedAll s pieces) (after-none came) ∙ after-all [] pieces
 
 -- ---- the reply there
@@ -162,17 +162,17 @@ table-at Whole line file came = fed-finish-table file came
 table-at (Refused why) line file came = refl
 
 module _ (came : List ℕ) (pieces : List (List ℕ)) where
-  pub pieces-reply : replyBy (afterAll came pieces .desk) (afterAll came pieces .words) ≡ replyIn came (joined pieces)
+  pub pieces-reply : replyBy (afterAll came pieces .desk) (afterAll came pieces .words) ≡ replyIn came (allBytes pieces)
   unfolding replyIn
   pieces-reply =
       ap (λ (s : DeskAndTable). replyBy (s .desk) (s .words)) (stands came pieces) ∙
-      reply-at (askedIn (joined pieces)) (firstLine (joined pieces)) (behindFirst (joined pieces)) came
+      reply-at (askedIn (allBytes pieces)) (firstLine (allBytes pieces)) (behindFirst (allBytes pieces)) came
 
-  pub pieces-table : tableBy (afterAll came pieces .desk) (afterAll came pieces .words) ≡ tableIn came (joined pieces)
+  pub pieces-table : tableBy (afterAll came pieces .desk) (afterAll came pieces .words) ≡ tableIn came (allBytes pieces)
   unfolding tableIn
   pieces-table =
       ap (λ (s : DeskAndTable). tableBy (s .desk) (s .words)) (stands came pieces) ∙
-      table-at (askedIn (joined pieces)) (firstLine (joined pieces)) (behindFirst (joined pieces)) came
+      table-at (askedIn (allBytes pieces)) (firstLine (allBytes pieces)) (behindFirst (allBytes pieces)) came
 
 -- ---- one piece
 
@@ -182,8 +182,8 @@ module _ (came input : List ℕ) (d : Desk) (e : d ≡ begunDesk) (x : Desk) (ws
   one-piece =
       ap₂ (λ (y : Desk) (vs : List ℕ). record { desk = y; words = vs }) j k ∙ ap (λ (y : Desk). fed y came input) e
 
-  whole-input : joined (input ∷ []) ≡ input
-  unfolding joined
+  whole-input : allBytes (input ∷ []) ≡ input
+  unfolding allBytes
   whole-input = append-nil input
 
   whole-reply : replyBy x ws ≡ replyIn came input
@@ -208,6 +208,6 @@ module _ (came input : List ℕ) (d : Desk) (e : d ≡ begunDesk) (x : Desk) (ws
 pub any-pieces : AnyPieces
 any-pieces =
     record {
-      text = λ came pieces l. ap textOf (pieces-reply came pieces ∙ same-reply came (replicate tableLength 0) (joined pieces) (l ∙ sym (length-replicate {A = ℕ} tableLength 0)));
+      text = λ came pieces l. ap textOf (pieces-reply came pieces ∙ same-reply came (replicate tableLength 0) (allBytes pieces) (l ∙ sym (length-replicate {A = ℕ} tableLength 0)));
       table = pieces-table;
     }

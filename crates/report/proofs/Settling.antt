@@ -1,7 +1,7 @@
 -- A desk that is settled: the answer is the same, whatever stands behind the bytes that brought it there.
 use mathlib.Core.Path.{_≡_, refl, sym, ap, ap₂, _∙_}
 use mathlib.Core.Bool.{Bool, true, false, cond}
-use mathlib.Core.List.{List, _++_, flatten as joined}
+use mathlib.Core.List.{List, _++_, flatten as allBytes}
 use Prim.Native.Nat.{ℕ, _≤_, min}
 use native.Mathlib.Omega.{arith}
 use borrow.Author.Tests.{leb-true}
@@ -114,10 +114,10 @@ pub any-more : AnyMore
 any-more = record { same = same }
   where
     same : (came : List ℕ) (pieces : List (List ℕ)) → length came ≡ tableLength → settled (afterAll came pieces .desk) ≡ true → (more : List ℕ) →
-        textOf (replyIn (replicate tableLength 0) (joined pieces ++ more)) ≡ textOf (replyIn (replicate tableLength 0) (joined pieces))
+        textOf (replyIn (replicate tableLength 0) (allBytes pieces ++ more)) ≡ textOf (replyIn (replicate tableLength 0) (allBytes pieces))
     same came pieces l h more =
         let zeros = length-replicate {A = ℕ} tableLength 0 in
-        let input = joined pieces in
+        let input = allBytes pieces in
         let there = ap (λ (s : DeskAndTable). settled (s .desk)) (sym (stands came pieces)) ∙ h in
         ap textOf
         (same-reply (replicate tableLength 0) came (input ++ more) (zeros ∙ sym l) ∙

@@ -1,7 +1,7 @@
 -- The loop of reads: at each turn desk and table stand where some pieces brought them, and the buffer is as long as it was. What is told in the end.
 use mathlib.Core.Path.{_≡_, refl, sym, ap, ap₂, _∙_}
 use mathlib.Core.Bool.{Bool, true}
-use mathlib.Core.List.{List, [], _∷_, _++_, flatten as joined}
+use mathlib.Core.List.{List, [], _∷_, _++_, flatten as allBytes}
 use Prim.Native.Nat.{ℕ}
 use native.Mathlib.Omega.{arith}
 use lib.ListN.{length, take, drop}
@@ -77,13 +77,13 @@ module _ (text out after : List ℕ) (n : ℕ) (e : n ≡ length text) (f : afte
 pub tells : (d : Desk) (ws out after : List ℕ) (n : ℕ) → n ≡ length (textOf (replyBy d ws)) → after ≡ over (textOf (replyBy d ws)) out → Tells d ws after n
 tells d ws out after n e f = record { within = told-within (textOf (replyBy d ws)) out after n e f; line = line; any = any }
   where
-    line : (came : List ℕ) → length came ≡ tableLength → (b : Brought came d ws) → take n after ≡ answer (joined (b .pieces))
+    line : (came : List ℕ) → length came ≡ tableLength → (b : Brought came d ws) → take n after ≡ answer (allBytes (b .pieces))
     line came l b =
         told-there (textOf (replyBy d ws)) out after n e f ∙
         ap (λ (s : DeskAndTable). textOf (replyBy (s .desk) (s .words))) (b .so) ∙
         any-pieces .text came (b .pieces) l
 
-    any : (came : List ℕ) → length came ≡ tableLength → (b : Brought came d ws) → settled d ≡ true → (more : List ℕ) → take n after ≡ answer (joined (b .pieces) ++ more)
+    any : (came : List ℕ) → length came ≡ tableLength → (b : Brought came d ws) → settled d ≡ true → (more : List ℕ) → take n after ≡ answer (allBytes (b .pieces) ++ more)
     any came l b t more =
         line came l b ∙ sym (any-more .same came (b .pieces) l (ap (λ (s : DeskAndTable). settled (s .desk)) (sym (b .so)) ∙ t) more)
 

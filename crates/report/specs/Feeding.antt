@@ -5,7 +5,7 @@
 use Prim.Native.Nat.{ℕ}
 use mathlib.Core.Path.{_≡_}
 use mathlib.Core.Bool.{cond}
-use mathlib.Core.List.{List, [], _∷_, _++_, flatten as joined}
+use mathlib.Core.List.{List, [], _∷_, _++_, flatten as allBytes}
 use lib.ListN.{length, drop}
 use Rattle.units.specs.declared.Millis.{Millis}
 use Rattle.file.specs.Lines.{hasFeed, firstLine, behindFirst}
@@ -96,5 +96,5 @@ afterAll came pieces = fedAll (record { desk = begunDesk; words = came }) pieces
 -- the answer is the same in any table of that length, whatever words it came with. Proved by `any-pieces` of proofs/Pieces.antt
 pub record AnyPieces : Type 0 where
   pub text : (came : List ℕ) (pieces : List (List ℕ)) → length came ≡ tableLength →
-      textOf (replyBy (afterAll came pieces .desk) (afterAll came pieces .words)) ≡ answer (joined pieces)
-  pub table : (came : List ℕ) (pieces : List (List ℕ)) → tableBy (afterAll came pieces .desk) (afterAll came pieces .words) ≡ tableIn came (joined pieces)
+      textOf (replyBy (afterAll came pieces .desk) (afterAll came pieces .words)) ≡ answer (allBytes pieces)
+  pub table : (came : List ℕ) (pieces : List (List ℕ)) → tableBy (afterAll came pieces .desk) (afterAll came pieces .words) ≡ tableIn came (allBytes pieces)

@@ -2,7 +2,7 @@
 use Prim.Native.Nat.{ℕ, _≤_}
 use mathlib.Core.Path.{_≡_}
 use mathlib.Core.Bool.{true}
-use mathlib.Core.List.{List, _++_, flatten as joined}
+use mathlib.Core.List.{List, _++_, flatten as allBytes}
 use lib.ListN.{length, take}
 use Rattle.report.specs.declared.Desk.{Desk}
 use Rattle.report.specs.declared.Stopped.{Stopped}
@@ -26,13 +26,13 @@ pub record Reads (came : List ℕ) (f : Fed) (ws : List ℕ) : Type 0 where
 -- answer to all the bytes of those pieces; and if the desk is settled, to those bytes with any more behind them
 pub record Tells (d : Desk) (ws out : List ℕ) (n : ℕ) : Type 0 where
   pub within : n ≤ length out
-  pub line : (came : List ℕ) → length came ≡ tableLength → (b : Brought came d ws) → take n out ≡ answer (joined (b .pieces))
-  pub any : (came : List ℕ) → length came ≡ tableLength → (b : Brought came d ws) → settled d ≡ true → (more : List ℕ) → take n out ≡ answer (joined (b .pieces) ++ more)
+  pub line : (came : List ℕ) → length came ≡ tableLength → (b : Brought came d ws) → take n out ≡ answer (allBytes (b .pieces))
+  pub any : (came : List ℕ) → length came ≡ tableLength → (b : Brought came d ws) → settled d ≡ true → (more : List ℕ) → take n out ≡ answer (allBytes (b .pieces) ++ more)
 
 -- n bytes at the front of an output are the answer to all the bytes of some pieces; and if the reads stopped because it is settled, to those bytes with
 -- any more behind them
 pub record Answered (why : Stopped) (out : List ℕ) (n : ℕ) : Type 0 where
   pub within : n ≤ length out
   pub pieces : List (List ℕ)
-  pub line : take n out ≡ answer (joined pieces)
-  pub any : why ≡ Settled → (more : List ℕ) → take n out ≡ answer (joined pieces ++ more)
+  pub line : take n out ≡ answer (allBytes pieces)
+  pub any : why ≡ Settled → (more : List ℕ) → take n out ≡ answer (allBytes pieces ++ more)

@@ -4,7 +4,7 @@
 use Prim.Native.Nat.{ℕ}
 use mathlib.Core.Path.{_≡_}
 use mathlib.Core.Bool.{Bool, true}
-use mathlib.Core.List.{List, _++_, flatten as joined}
+use mathlib.Core.List.{List, _++_, flatten as allBytes}
 use lib.ListN.{length}
 use Rattle.file.specs.SoFar.{tooLong}
 use Rattle.file.specs.Settled.{readerSettled}
@@ -28,4 +28,4 @@ settled d = settledBy (d .asked) d
 
 pub record AnyMore : Type 0 where
   pub same : (came : List ℕ) (pieces : List (List ℕ)) → length came ≡ tableLength → settled (afterAll came pieces .desk) ≡ true → (more : List ℕ) →
-      answer (joined pieces ++ more) ≡ answer (joined pieces)
+      answer (allBytes pieces ++ more) ≡ answer (allBytes pieces)
