@@ -1,5 +1,6 @@
 -- Laws of the units that belong to no one function.
 pub mod Choice
+pub mod FullTicks
 pub mod Guards
 pub mod Held
 pub mod Makers

@@ -13,7 +13,7 @@ use Rattle.units.specs.declared.WideTick.{WideTick}
 use Rattle.units.specs.declared.standing.Standing.the-variants.{Joins, Gap, Overlap}
 
 -- the one number below 2^32 by which the next tick would have to grow to show the stamp
-less32-unique : (x a b : ℕ) → x < 2 ^ 32 → (x + b % 2 ^ 32) % 2 ^ 32 ≡ a → x ≡ less32 a b
+pub less32-unique : (x a b : ℕ) → x < 2 ^ 32 → (x + b % 2 ^ 32) % 2 ^ 32 ≡ a → x ≡ less32 a b
 unfolding less32
 less32-unique x a b h e = omega arith
 
@@ -37,13 +37,9 @@ module _ (start : WideTick) (next : Tick) where
   pub tick-overlap : (start .0 ≡ next .0 → ⊥) → start .0 ≤ next .0 → Overlap ≡ tickStanding start next
   tick-overlap h l = says-overlap (ne-eqb (start .0) (next .0) h) (le-ltb (next .0) (start .0) l)
 
-module _ (x : ℕ) (stamp : Stamp) (next : Tick) (small : x < 2 ^ 32) (back : (x + next .0 % 2 ^ 32) % 2 ^ 32 ≡ stamp .0) where
+module _ (x : ℕ) (stamp : Stamp) (next : Tick) (is-apart : x ≡ less32 (stamp .0) (next .0)) where
   apart : ℕ
   apart = less32 (stamp .0) (next .0)
-
-  is-apart : x ≡ apart
-  unfolding apart
-  is-apart = less32-unique x (stamp .0) (next .0) small back
 
   pub stamp-joins : x ≡ 0 → Joins ≡ stampStanding stamp next
   unfolding apart
@@ -66,15 +62,15 @@ module _ (start : WideTick) (next : Tick) (h : start .0 < next .0 + 2 ^ 31) (l :
   unfolding stamp
   tells true e g f =
       let k : start .0 ≡ next .0 = eqb-true (start .0) (next .0) e in
-      sym (stamp-joins 0 stamp next (omega arith) (omega arith) refl)
+      sym (stamp-joins 0 stamp next (less32-unique _ _ _ (omega arith) (omega arith)) refl)
   tells false e true f =
       let k : next .0 < start .0 = ltb-true (next .0) (start .0) f in
-      sym (stamp-gap (start .0 - next .0) stamp next (omega arith) (omega arith) (λ (z : start .0 - next .0 ≡ 0). omega arith) (omega arith))
+      sym (stamp-gap (start .0 - next .0) stamp next (less32-unique _ _ _ (omega arith) (omega arith)) (λ (z : start .0 - next .0 ≡ 0). omega arith) (omega arith))
   tells false e false f =
       let k : start .0 ≤ next .0 = ltb-false (next .0) (start .0) f in
       let n : start .0 ≡ next .0 → ⊥ = eqb-false (start .0) (next .0) e in
       let x : ℕ = 2 ^ 32 - (next .0 - start .0) in
-      sym (stamp-overlap x stamp next (omega arith) (omega arith) (λ (z : x ≡ 0). omega arith) (omega arith))
+      sym (stamp-overlap x stamp next (less32-unique _ _ _ (omega arith) (omega arith)) (λ (z : x ≡ 0). omega arith) (omega arith))
 
   pub stamp-tells : stampStanding (record { 0 = start .0 % 2 ^ 32 }) next ≡ tickStanding start next
   unfolding stamp

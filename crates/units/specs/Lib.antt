@@ -1,4 +1,5 @@
 pub mod Exactly
+pub mod Full
 pub mod Limits
 pub mod Product
 pub mod Standing

@@ -8,8 +8,10 @@ ghost use Rattle.units.specs.Limits.{largestTick, largestMillis, largest
 ghost use Rattle.units.specs.Limits.{tickHeld, millisHeld, timescaleHeld, spanHeld, numberHeld};
 ghost use Rattle.units.specs.Limits.{tickMade, millisMade, timescaleMade, spanMade, numberMade, grainsBetween};
 
+mod full;
 mod standing;
 
+pub use full::Full;
 pub use standing::Standing;
 
 // A tick position within the limit: an offset, a start or an end of a reference.

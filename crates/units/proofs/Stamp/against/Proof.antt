@@ -1,4 +1,4 @@
--- `Stamp::against` meets its contract: the wrapping difference is stamp less next tick, modulo 2^32.
+-- `Stamp::against` meets its contract: joined at 0, then by half of the circle.
 use borrow.Author.Needs.{needs}
 use Rattle.units.proofs.Stamps.{stamp-joins, stamp-gap, stamp-overlap}
 use Rattle.units.proofs.Stamp.against.Statement.{statement}
@@ -8,7 +8,6 @@ pub against-spec : {M : Type 1} → statement M
 against-spec =
     tie.close
     (tie.spec
-    (λ c. search needs)
     (λ c κs. search needs)
     (λ c. search (needs, stamp-joins))
     (λ c. search (needs, stamp-gap))

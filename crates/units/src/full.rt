@@ -1,0 +1,39 @@
+// The full tick of a stamp: the one that shows it, within half a circle of the next tick. A recorder
+// that sends stamps alone hears of a gap or an overlap as a whole tick.
+ghost use mathlib.Core.Path.{_≡_};
+ghost use Rattle.units.specs.Full.{fullTick};
+use crate::Stamp;
+use crate::Tick;
+
+pub enum Full {
+    At(Tick),
+    Nowhere,
+}
+
+// The stamps go round in so many ticks.
+const CIRCLE: u64 = 4_294_967_296;
+
+// A stamp exactly this far away lies behind.
+const HALF: u64 = 2_147_483_648;
+
+impl Stamp {
+    pub fn full(self, next: Tick) -> Full
+        ensures { λ r. ⌜ r ≡ fullTick self next ⌝ }
+    {
+        let distance = self.apart(next) as u64;
+        if distance < HALF {
+            if Tick::LARGEST - distance < next.0 {
+                return Full::Nowhere;
+            }
+            return Full::At(Tick(next.0 + distance));
+        }
+        let back = CIRCLE - distance;
+        if next.0 < back {
+            return Full::Nowhere;
+        }
+        if Tick::LARGEST < next.0 - back {
+            return Full::Nowhere;
+        }
+        Full::At(Tick(next.0 - back))
+    }
+}
