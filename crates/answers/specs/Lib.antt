@@ -7,3 +7,4 @@ pub mod Spans
 pub mod Numbers
 pub mod Ranges
 pub mod Steps
+pub mod Stamps

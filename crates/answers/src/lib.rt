@@ -10,8 +10,11 @@ use window::Reference;
 mod numbers;
 pub mod shares;
 pub mod spans;
+pub mod stamps;
 pub mod times;
 pub mod verdicts;
+
+pub use stamps::FullTick;
 
 // Nothing is needed; or the needed count, all covered; or the needed count, the covered count and
 // the lowest needed tick that is not covered.
