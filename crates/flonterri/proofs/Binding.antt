@@ -1,15 +1,20 @@
--- What a binding relies on: accepted calls leave words that agree, a call that looks tells whether words agree, and a wide number is not kept.
-use mathlib.Core.Path.{_≡_, refl, sym, ap, _∙_}
+-- What a binding relies on: accepted calls leave words that agree, a call that looks tells whether words agree, a wide number is not kept, and the
+-- full tick of a stamp is refused for disagreement alone.
+use mathlib.Core.Path.{_≡_, refl, sym, ap, ap₂, _∙_}
 use mathlib.Core.Bool.{Bool, true, false, cond}
 use mathlib.Core.List.{List, [], _∷_, append-nil}
 use Prim.Native.Nat.{ℕ, _+_, _*_, _≤_, _<_}
 use native.Mathlib.Omega.{arith}
-use borrow.Author.Tests.{eqb-false, leb-true}
+use borrow.Author.Tests.{eqb-false, leb-true, le-leb}
 use lib.Dec.{eqb}
 use lib.IntN.{ℤ}
 use lib.ListN.{length}
 use Rattle.units.specs.declared.WideMillis.{WideMillis}
+use Rattle.units.specs.declared.Stamp.{Stamp}
+use Rattle.units.specs.declared.full.Full.{Full}
+use Rattle.units.specs.declared.full.Full.the-variants as named
 use Rattle.units.specs.declared.standing.Standing.{Standing}
+use Rattle.units.specs.Full.{fullTick}
 use Rattle.units.specs.Limits.{largestSpan, largestMillis, largestNumber, clockHeld}
 use Rattle.units.specs.Standing.{tickStanding, stampStanding}
 use Rattle.runs.specs.Words.{runsOf}
@@ -28,6 +33,11 @@ use Rattle.timeline.proofs.Kept.{open-agrees, trim-keeps, accepted-keeps}
 use Rattle.answers.specs.declared.Numbered.the-variants.{Missing}
 use Rattle.answers.specs.declared.Availability.the-variants as availability
 use Rattle.answers.specs.Available.{numbered, keptNumber, numberAvailability, availabilityIn}
+use Rattle.answers.specs.declared.AvailableAt.the-variants as at
+use Rattle.answers.specs.declared.stamps.FullTick.the-variants as full
+use Rattle.answers.specs.Available.{numberAvailable, availableIn}
+use Rattle.answers.specs.Numbers.{availableNumber}
+use Rattle.answers.specs.Stamps.{foundTick, fullTickIn, fullTickNumber}
 use Rattle.answers.specs.declared.Touching.{Touching}
 use Rattle.answers.specs.declared.Touching.the-variants as touching
 use Rattle.answers.specs.Spans.{touches, beforeFirst, uptoLast, touchingWords}
@@ -37,7 +47,9 @@ use Rattle.file.specs.Judging.{readOutcome, readAnswer, readTable, answeredBy, 
 use Rattle.file.proofs.Stable.{read-agrees}
 use Rattle.flonterri.specs.Words.{recordWords, recordOf, wordsOf, headWith}
 use Rattle.flonterri.specs.Tells.{Tells, availabilityTells, touchingTells}
+use Rattle.flonterri.specs.Tells.{availableTells, fullTickTells}
 use Rattle.flonterri.specs.Face.{wrongRecord, wrongLength, guarded, Changes, changes, opens, appendsBy, appends, appendsStamp, trims, tells, tellsTouching, tellsAvailability, Reads, readsBy, reads}
+use Rattle.flonterri.specs.Face.{tellsAvailable, tellsFullTick}
 use Rattle.flonterri.specs.Binding.{agreed, LeavesAgreed, Binding}
 use Rattle.flonterri.proofs.Words.{record-words}
 use Rattle.flonterri.proofs.Lengths.{both-right, behind}
@@ -161,6 +173,29 @@ wide-told ws ts n out l m a w =
     ap (λ t. availabilityTells (cond t (numberAvailability (recordOf ws .head) (keptNumber (recordOf ws) ts n)) (availability.Refused refusal.Disagreement)) out .number) a ∙
     ap (λ x. availabilityTells (numberAvailability (recordOf ws .head) x) out .number) (wide-missing (recordOf ws) ts n a w)
 
+wide-told-at : (ws ts : List ℕ) (n c : ℕ) (out : List ℕ) → length ws ≡ recordWords → length out ≡ 1 → agreed ws ts ≡ true → c ≤ largestMillis → largestNumber < n →
+    tellsAvailable ws ts n c out .number ≡ 13
+unfolding tellsAvailable availableTells
+wide-told-at ws ts n c out l m a b w =
+    told-number ws 1 (availableTells (availableIn (recordOf ws) ts (record { 0 = n }) (record { 0 = c }))) out l m ∙
+    ap₂ (λ s t. availableNumber (cond s (cond t (numberAvailable (recordOf ws .head) c (keptNumber (recordOf ws) ts n)) (at.Refused refusal.ClockLimit)) (at.Refused refusal.Disagreement)))
+    a (le-leb c largestMillis b) ∙
+    ap (λ x. availableNumber (numberAvailable (recordOf ws .head) c x)) (wide-missing (recordOf ws) ts n a w)
+
+-- a full tick that is asked for is told, or that there is none
+full-number : (rec : Record) (ts : List ℕ) (stamp : Stamp) → fullTickNumber (fullTickIn rec ts stamp) ≡ cond (agrees rec ts) 0 2
+full-number rec ts stamp = go (agrees rec ts) (fullTick stamp (rec .next))
+  where
+    go : (t : Bool) (x : Full) → fullTickNumber (cond t (foundTick x) (full.Refused refusal.Disagreement)) ≡ cond t 0 2
+    go true (named.At tick) = refl
+    go true named.Nowhere = refl
+    go false x = refl
+
+full-told : (ws ts : List ℕ) (stamp : ℕ) (out : List ℕ) → length ws ≡ recordWords → length out ≡ 2 → tellsFullTick ws ts stamp out .number ≡ cond (agreed ws ts) 0 2
+unfolding tellsFullTick fullTickTells
+full-told ws ts stamp out l m =
+    told-number ws 2 (fullTickTells (fullTickIn (recordOf ws) ts (record { 0 = stamp }))) out l m ∙ full-number (recordOf ws) ts (record { 0 = stamp })
+
 pub binding : Binding
 binding =
     record {
@@ -171,4 +206,6 @@ binding =
       read = read-agreed;
       touching = touching-told;
       wide-number = wide-told;
+      wide-number-at = wide-told-at;
+      full-tick = full-told;
     }

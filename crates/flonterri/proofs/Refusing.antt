@@ -24,6 +24,10 @@ use Rattle.answers.specs.declared.Percent.{Percent}
 use Rattle.answers.specs.declared.Percent.the-variants.{Of, Undefined}
 use Rattle.answers.specs.declared.Availability.{Availability}
 use Rattle.answers.specs.declared.Availability.the-variants as availability
+use Rattle.answers.specs.declared.AvailableAt.{AvailableAt}
+use Rattle.answers.specs.declared.AvailableAt.the-variants as at
+use Rattle.answers.specs.declared.stamps.FullTick.{FullTick}
+use Rattle.answers.specs.declared.stamps.FullTick.the-variants as full
 use Rattle.answers.specs.declared.Touching.{Touching}
 use Rattle.answers.specs.declared.Touching.the-variants as touching
 use Rattle.answers.specs.Judgement.{verdictAt, verdictWhole, complete}
@@ -36,6 +40,8 @@ use Rattle.file.specs.Writing.{writeAnswer, outputBy, fileFor}
 use Rattle.flonterri.specs.Words.{recordWords, recordOf, wordsOf, headWith}
 use Rattle.flonterri.specs.Tells.{Tells, verdictOut, verdictTells, availabilityOut, availabilityTells, touchingOut, touchingTells, writeOut, writeTells}
 use Rattle.flonterri.specs.Face.{wrongRecord, wrongLength, guarded, Changes, changes, opens, appends, appendsStamp, trims, tells, tellsVerdict, tellsWhole, tellsAvailability, tellsTouching, Reads, readsBy, reads, Writes, writesBy, writes}
+use Rattle.flonterri.specs.Tells.{availableOut, availableTells, fullTickOut, fullTickTells}
+use Rattle.flonterri.specs.Face.{tellsAvailable, tellsFullTick}
 use Rattle.flonterri.proofs.Words.{words-record}
 use Rattle.flonterri.proofs.Lengths.{both-right, behind}
 
@@ -116,6 +122,18 @@ availability-silent (availability.NeverEnds a) out k = absurd (k refl)
 availability-silent (availability.Ends a b) out k = absurd (k refl)
 availability-silent (availability.Refused why) out k = refl
 
+pub available-silent : (v : AvailableAt) (out : List ℕ) → (availableTells v out .number ≡ 0 → ⊥) → availableTells v out .out ≡ out
+unfolding availableTells availableOut
+available-silent at.Yes out k = absurd (k refl)
+available-silent at.No out k = absurd (k refl)
+available-silent (at.Refused why) out k = refl
+
+pub full-silent : (v : FullTick) (out : List ℕ) → (fullTickTells v out .number ≡ 0 → ⊥) → fullTickTells v out .out ≡ out
+unfolding fullTickTells fullTickOut
+full-silent (full.At t) out k = absurd (k refl)
+full-silent full.Nowhere out k = absurd (k refl)
+full-silent (full.Refused why) out k = refl
+
 pub touching-silent : (v : Touching) (out : List ℕ) → (touchingTells v out .number ≡ 0 → ⊥) → touchingTells v out .out ≡ out
 unfolding touchingTells touchingOut
 touching-silent (touching.Words a b) out k = absurd (k refl)
@@ -149,6 +167,14 @@ module _ (ws ts : List ℕ) where
   pub availability-refused : (n : ℕ) (out : List ℤ) → (tellsAvailability ws ts n out .number ≡ 0 → ⊥) → tellsAvailability ws ts n out .out ≡ out
   unfolding tellsAvailability
   availability-refused n out k = refused-tells ws 3 _ out (availability-silent _ out) k
+
+  pub available-refused : (n c : ℕ) (out : List ℕ) → (tellsAvailable ws ts n c out .number ≡ 0 → ⊥) → tellsAvailable ws ts n c out .out ≡ out
+  unfolding tellsAvailable
+  available-refused n c out k = refused-tells ws 1 _ out (available-silent _ out) k
+
+  pub full-refused : (stamp : ℕ) (out : List ℕ) → (tellsFullTick ws ts stamp out .number ≡ 0 → ⊥) → tellsFullTick ws ts stamp out .out ≡ out
+  unfolding tellsFullTick
+  full-refused stamp out k = refused-tells ws 2 _ out (full-silent _ out) k
 
   pub touching-refused : (a b : ℕ) (out : List ℕ) → (tellsTouching ws ts a b out .number ≡ 0 → ⊥) → tellsTouching ws ts a b out .out ≡ out
   unfolding tellsTouching

@@ -1,6 +1,7 @@
 -- What a binding of another language may rely on, so that each of its timelines agrees. An accepted call that changes, and an accepted reading,
 -- leave a record and a table that agree. Whether words agree is told by a call that only looks: asked for the runs that touch tick 0, it is
--- refused for disagreement and for nothing else. And a number that is wider than a reference's can be is not kept.
+-- refused for disagreement and for nothing else; so is a call for the full tick of a stamp. And a number that is wider than a reference's
+-- can be is not kept, at whatever clock.
 -- Paper: Record and table; Refusal numbers, 2 and 13.
 use Prim.Native.Nat.{ℕ, _≤_, _<_}
 use mathlib.Core.Path.{_≡_}
@@ -8,10 +9,11 @@ use mathlib.Core.Bool.{Bool, true, cond}
 use mathlib.Core.List.{List}
 use lib.IntN.{ℤ}
 use lib.ListN.{length}
-use Rattle.units.specs.Limits.{largestSpan, largestNumber}
+use Rattle.units.specs.Limits.{largestSpan, largestMillis, largestNumber}
 use Rattle.agreement.specs.Agreement.{agrees}
 use Rattle.flonterri.specs.Words.{recordWords, recordOf}
 use Rattle.flonterri.specs.Face.{Changes, opens, appends, appendsStamp, trims, tellsTouching, tellsAvailability, reads}
+use Rattle.flonterri.specs.Face.{tellsAvailable, tellsFullTick}
 
 -- whether the record that words mean agrees with a table
 abbrev pub agreed : List ℕ → List ℕ → Bool
@@ -38,3 +40,8 @@ pub record Binding : Type 0 where
   -- a number over 2^32 - 1 is 13
   pub wide-number : (ws ts : List ℕ) (n : ℕ) (out : List ℤ) → length ws ≡ recordWords → length out ≡ 3 → agreed ws ts ≡ true → largestNumber < n →
       tellsAvailability ws ts n out .number ≡ 13
+  pub wide-number-at : (ws ts : List ℕ) (n c : ℕ) (out : List ℕ) → length ws ≡ recordWords → length out ≡ 1 → agreed ws ts ≡ true →
+      c ≤ largestMillis → largestNumber < n → tellsAvailable ws ts n c out .number ≡ 13
+  -- the full tick of a stamp: 0 where record and table agree, whether there is one or not, else 2
+  pub full-tick : (ws ts : List ℕ) (stamp : ℕ) (out : List ℕ) → length ws ≡ recordWords → length out ≡ 2 →
+      tellsFullTick ws ts stamp out .number ≡ cond (agreed ws ts) 0 2

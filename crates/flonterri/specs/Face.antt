@@ -18,7 +18,8 @@ use Rattle.timeline.specs.Opening.{openAnswer, openTable}
 use Rattle.timeline.specs.Appending.{appendAnswer, appendTable}
 use Rattle.timeline.specs.Trimming.{trimAnswer, trimTable}
 use Rattle.answers.specs.Judgement.{verdictAt, verdictWhole}
-use Rattle.answers.specs.Available.{availabilityIn}
+use Rattle.answers.specs.Available.{availabilityIn, availableIn}
+use Rattle.answers.specs.Stamps.{fullTickIn}
 use Rattle.answers.specs.Spans.{touchingWords}
 use Rattle.file.specs.declared.ReadAnswer.{ReadAnswer}
 use Rattle.file.specs.declared.WriteAnswer.{WriteAnswer}
@@ -26,6 +27,7 @@ use Rattle.file.specs.Judging.{readAnswer, readTable}
 use Rattle.file.specs.Writing.{writeAnswer, outputBy, fileFor}
 use Rattle.flonterri.specs.Words.{recordWords, headWith, recordOf, wordsOf}
 use Rattle.flonterri.specs.Tells.{Tells, verdictTells, availabilityTells, touchingTells, writeTells}
+use Rattle.flonterri.specs.Tells.{availableTells, fullTickTells}
 
 -- ---- guarded by lengths
 
@@ -89,6 +91,12 @@ tellsWhole ws ts out = tells ws 5 (verdictTells (verdictWhole (recordOf ws) ts))
 
 unfoldable pub tellsAvailability : List ℕ → List ℕ → ℕ → List ℤ → Tells ℤ
 tellsAvailability ws ts n out = tells ws 3 (availabilityTells (availabilityIn (recordOf ws) ts (record { 0 = n }))) out
+
+unfoldable pub tellsAvailable : List ℕ → List ℕ → ℕ → ℕ → List ℕ → Tells ℕ
+tellsAvailable ws ts n c out = tells ws 1 (availableTells (availableIn (recordOf ws) ts (record { 0 = n }) (record { 0 = c }))) out
+
+unfoldable pub tellsFullTick : List ℕ → List ℕ → ℕ → List ℕ → Tells ℕ
+tellsFullTick ws ts stamp out = tells ws 2 (fullTickTells (fullTickIn (recordOf ws) ts (record { 0 = stamp }))) out
 
 unfoldable pub tellsTouching : List ℕ → List ℕ → ℕ → ℕ → List ℕ → Tells ℕ
 tellsTouching ws ts a b out = tells ws 2 (touchingTells (touchingWords (recordOf ws) ts (record { 0 = a }) (record { 0 = b }))) out

@@ -1,5 +1,5 @@
 -- What an answer tells: the paper's number of it, 0 where it is not refused, and in the caller's out its words, with 0 for what does not apply; refused,
--- out stays as it came. Paper: Verdict and availability; Refusal numbers.
+-- out stays as it came. Paper: Verdict and availability; Append and trim (by stamp); Refusal numbers.
 use Prim.Native.Nat.{ℕ}
 use mathlib.Core.List.{List, [], _∷_}
 use lib.IntN.{ℤ, pos}
@@ -7,10 +7,16 @@ use Rattle.answers.specs.declared.Verdict.{Verdict}
 use Rattle.answers.specs.declared.Verdict.the-variants as verdict
 use Rattle.answers.specs.declared.Availability.{Availability}
 use Rattle.answers.specs.declared.Availability.the-variants as availability
+use Rattle.answers.specs.declared.AvailableAt.{AvailableAt}
+use Rattle.answers.specs.declared.AvailableAt.the-variants as at
+use Rattle.answers.specs.declared.stamps.FullTick.{FullTick}
+use Rattle.answers.specs.declared.stamps.FullTick.the-variants as full
 use Rattle.answers.specs.declared.Touching.{Touching}
 use Rattle.answers.specs.declared.Touching.the-variants as touching
 use Rattle.answers.specs.Numbers.{verdictNumber, availabilityNumber, touchingNumber}
+use Rattle.answers.specs.Numbers.{availableNumber}
 use Rattle.answers.specs.Shares.{verdictPercent, percentNumber}
+use Rattle.answers.specs.Stamps.{fullTickNumber}
 use Rattle.file.specs.declared.WriteAnswer.{WriteAnswer}
 use Rattle.file.specs.declared.WriteAnswer.the-variants as written
 use Rattle.file.specs.Writing.{writeNumber}
@@ -39,6 +45,24 @@ availabilityOut (availability.Refused why) out = out
 
 unfoldable pub availabilityTells : Availability → List ℤ → Tells ℤ
 availabilityTells a out = record { number = availabilityNumber a; out = availabilityOut a out }
+
+-- 1 where it is available at that clock, 0 where it is not
+unfoldable pub availableOut : AvailableAt → List ℕ → List ℕ
+availableOut at.Yes out = 1 ∷ []
+availableOut at.No out = 0 ∷ []
+availableOut (at.Refused why) out = out
+
+unfoldable pub availableTells : AvailableAt → List ℕ → Tells ℕ
+availableTells a out = record { number = availableNumber a; out = availableOut a out }
+
+-- kind (0 none, 1 a tick), the full tick
+unfoldable pub fullTickOut : FullTick → List ℕ → List ℕ
+fullTickOut (full.At tick) out = 1 ∷ tick .0 ∷ []
+fullTickOut full.Nowhere out = 0 ∷ 0 ∷ []
+fullTickOut (full.Refused why) out = out
+
+unfoldable pub fullTickTells : FullTick → List ℕ → Tells ℕ
+fullTickTells x out = record { number = fullTickNumber x; out = fullTickOut x out }
 
 -- the first word of the touching runs, and the one past their last
 unfoldable pub touchingOut : Touching → List ℕ → List ℕ

@@ -1,10 +1,13 @@
 // What C and Rust may call: the whole paper over lent words and bytes. Each function answers the
 // paper's refusal number, 0 where the call is accepted, and takes any words of any length.
+mod asking;
 mod changing;
 mod filing;
 mod looking;
 mod packing;
 
+pub use asking::flonterri_available_at;
+pub use asking::flonterri_full_tick;
 pub use changing::flonterri_append;
 pub use changing::flonterri_append_stamp;
 pub use changing::flonterri_open;

@@ -47,7 +47,7 @@ fn put_three(out: &mut [i64], kind: i64, start: i64, end: i64)
 }
 
 // Inner, since there must be 2 words: writes over both of them.
-fn put_two(out: &mut [u64], first: u64, last: u64)
+pub(crate) fn put_two(out: &mut [u64], first: u64, last: u64)
     requires { ⌜ length (now out) ≡ 2 ⌝ }
     ensures { λ _. ⌜ now (out .exit) ≡ first ∷ last ∷ [] ⌝ }
 {
