@@ -36,6 +36,8 @@ extern "C" {
 /* How many words out must have, for each function that takes it. */
 #define FLONTERRI_VERDICT_WORDS 5
 #define FLONTERRI_AVAILABILITY_WORDS 3
+#define FLONTERRI_AVAILABLE_WORDS 1
+#define FLONTERRI_FULL_TICK_WORDS 2
 #define FLONTERRI_TOUCHING_WORDS 2
 #define FLONTERRI_READ_WORDS 1
 #define FLONTERRI_WRITE_WORDS 1
@@ -91,6 +93,24 @@ enum flonterri_availability_word {
 enum flonterri_availability_kind {
     FLONTERRI_NEVER_ENDS = 0,
     FLONTERRI_ENDS = 1
+};
+
+/* What is told of a number at a clock. */
+enum flonterri_available {
+    FLONTERRI_NOT_AVAILABLE = 0,
+    FLONTERRI_AVAILABLE = 1
+};
+
+/* Where each word of a full tick stands in out: the kind, and the tick. */
+enum flonterri_full_tick_word {
+    FLONTERRI_FULL_TICK_KIND = 0,
+    FLONTERRI_FULL_TICK_TICK = 1
+};
+
+/* The kinds of a full tick: there is none, or it is named. */
+enum flonterri_full_tick_kind {
+    FLONTERRI_NO_TICK = 0,
+    FLONTERRI_TICK = 1
 };
 
 /* Where each word stands in out that tells the runs which touch a span: the place in the table of their
@@ -166,6 +186,21 @@ uint32_t flonterri_verdict_whole(const uint64_t *record, size_t record_words, co
  * No null. */
 uint32_t flonterri_availability(const uint64_t *record, size_t record_words, const uint64_t *table,
                                 size_t table_words, uint64_t number, int64_t *out, size_t out_words);
+
+/* Whether the kept reference of a number is available at a clock. out has 1 word, one of flonterri_available.
+ * Refusals 2, 10, 13, and 15 for out; a number over 2^32 - 1 is never kept, and so is 13. Changes out alone;
+ * refused it changes nothing. */
+uint32_t flonterri_available_at(const uint64_t *record, size_t record_words, const uint64_t *table,
+                                size_t table_words, uint64_t number, uint64_t clock, uint64_t *out,
+                                size_t out_words);
+
+/* The full tick of a stamp, the low 32 bits of a tick, by the next tick: the only tick that has the stamp and
+ * lies less than 2^31 after the next tick, or before it by 2^31 at most. So a caller who hears of a gap or an
+ * overlap widens no stamp by hand. out has 2 words, as flonterri_full_tick_word names them; where that tick
+ * would lie below 0 or over 2^52 - 1 there is none, and both are 0. Refusals 2, and 15 for out. Changes out
+ * alone; refused it changes nothing. */
+uint32_t flonterri_full_tick(const uint64_t *record, size_t record_words, const uint64_t *table, size_t table_words,
+                             uint32_t stamp, uint64_t *out, size_t out_words);
 
 /* The runs that touch the ticks from a up to b, b excluded. out has 2 words, as flonterri_touching_word names
  * them; both are 0 if no run touches. Refusals 2, 14, and 15 for out. Changes out alone; refused it changes

@@ -66,6 +66,12 @@ struct flonterri_availability_answer {
     int64_t end;   /* up to here, which is excluded; 0 where it never ends */
 };
 
+/* The full tick of a stamp. */
+struct flonterri_full_tick_answer {
+    enum flonterri_full_tick_kind kind;
+    uint64_t tick; /* 0 where there is none */
+};
+
 /* A run: references of one duration, each starting where the one before it ends. */
 struct flonterri_run {
     uint64_t start;    /* where the first reference starts, in ticks */
@@ -172,6 +178,35 @@ static inline uint32_t flonterri_timeline_availability(const struct flonterri_ti
         answer->kind = (enum flonterri_availability_kind)out[FLONTERRI_AVAILABILITY_KIND];
         answer->start = out[FLONTERRI_AVAILABILITY_START];
         answer->end = out[FLONTERRI_AVAILABILITY_END];
+    }
+    return refusal;
+}
+
+/* Whether the kept reference of a number is available at a clock. Refusals 2, 10, 13. */
+static inline uint32_t flonterri_timeline_available_at(const struct flonterri_timeline *timeline, uint64_t number,
+                                                       uint64_t clock, enum flonterri_available *available)
+{
+    uint64_t out[FLONTERRI_AVAILABLE_WORDS] = {0};
+    uint32_t refusal = flonterri_available_at(timeline->record, FLONTERRI_RECORD_WORDS, timeline->table,
+                                              timeline->table_words, number, clock, out, FLONTERRI_AVAILABLE_WORDS);
+
+    if (refusal == FLONTERRI_OK) {
+        *available = (enum flonterri_available)out[0];
+    }
+    return refusal;
+}
+
+/* The full tick of a stamp by the next tick, or none. Refusal 2. */
+static inline uint32_t flonterri_timeline_full_tick(const struct flonterri_timeline *timeline, uint32_t stamp,
+                                                    struct flonterri_full_tick_answer *answer)
+{
+    uint64_t out[FLONTERRI_FULL_TICK_WORDS] = {0};
+    uint32_t refusal = flonterri_full_tick(timeline->record, FLONTERRI_RECORD_WORDS, timeline->table,
+                                           timeline->table_words, stamp, out, FLONTERRI_FULL_TICK_WORDS);
+
+    if (refusal == FLONTERRI_OK) {
+        answer->kind = (enum flonterri_full_tick_kind)out[FLONTERRI_FULL_TICK_KIND];
+        answer->tick = out[FLONTERRI_FULL_TICK_TICK];
     }
     return refusal;
 }

@@ -1,7 +1,7 @@
 -- What a binding of another language may rely on, so that each of its timelines agrees. An accepted call that changes, and an accepted reading,
 -- leave a record and a table that agree. Whether words agree is told by a call that only looks: asked for the runs that touch tick 0, it is
 -- refused for disagreement and for nothing else; so is a call for the full tick of a stamp. And a number that is wider than a reference's
--- can be is not kept, at whatever clock.
+-- can be is not kept, nor at any clock within the limit.
 -- Paper: Record and table; Refusal numbers, 2 and 13.
 use Prim.Native.Nat.{ℕ, _≤_, _<_}
 use mathlib.Core.Path.{_≡_}

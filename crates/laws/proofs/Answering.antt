@@ -22,6 +22,9 @@ use Rattle.answers.specs.declared.Availability.{Availability}
 use Rattle.answers.specs.declared.Availability.the-variants as availability
 use Rattle.answers.specs.declared.AvailableAt.{AvailableAt}
 use Rattle.answers.specs.declared.AvailableAt.the-variants as at
+use Rattle.answers.specs.declared.stamps.FullTick.{FullTick}
+use Rattle.answers.specs.declared.stamps.FullTick.the-variants as full
+use Rattle.answers.specs.Stamps.{fullTickNumber}
 use Rattle.answers.specs.declared.Touching.{Touching}
 use Rattle.answers.specs.declared.Touching.the-variants as touching
 use Rattle.answers.specs.Numbers.{verdictNumber, availabilityNumber, availableNumber, touchingNumber}
@@ -39,6 +42,7 @@ use Rattle.file.specs.Writing.{writeNumber, outputBy}
 use Rattle.flonterri.specs.Words.{recordWords, wordsOf}
 use Rattle.flonterri.specs.Tells.{Tells, verdictTells, availabilityTells, touchingTells, writeTells}
 use Rattle.flonterri.specs.Face.{wrongRecord, wrongLength, guarded, changes, tells, readsBy, reads, writesBy, Changes as Seen, Reads as Readings, Writes as Wrote}
+use Rattle.flonterri.specs.Tells.{availableTells, fullTickTells}
 use Rattle.flonterri.proofs.Refusing.{read-refused}
 use Rattle.flonterri.proofs.Lengths.{both-right, behind}
 use Rattle.agreement.proofs.Numbers.{refusal-some}
@@ -74,6 +78,11 @@ pub available-only : (v : AvailableAt) → (availableNumber v ≡ 0 → ⊥) →
 available-only at.Yes k = absurd (k refl)
 available-only at.No k = absurd (k refl)
 available-only (at.Refused why) k = (why, refl)
+
+pub full-only : (v : FullTick) → (fullTickNumber v ≡ 0 → ⊥) → Only full.Refused v
+full-only (full.At t) k = absurd (k refl)
+full-only full.Nowhere k = absurd (k refl)
+full-only (full.Refused why) k = (why, refl)
 
 pub touching-only : (v : Touching) → (touchingNumber v ≡ 0 → ⊥) → Only touching.Refused v
 touching-only (touching.Words a b) k = absurd (k refl)
@@ -172,6 +181,18 @@ unfolding availabilityTells
 availability-told (availability.NeverEnds a) out = refl
 availability-told (availability.Ends a b) out = refl
 availability-told (availability.Refused why) out = refl
+
+pub available-told : (v : AvailableAt) (out : List ℕ) → availableTells v out .number ≡ availableNumber v
+unfolding availableTells
+available-told at.Yes out = refl
+available-told at.No out = refl
+available-told (at.Refused why) out = refl
+
+pub full-told : (v : FullTick) (out : List ℕ) → fullTickTells v out .number ≡ fullTickNumber v
+unfolding fullTickTells
+full-told (full.At t) out = refl
+full-told full.Nowhere out = refl
+full-told (full.Refused why) out = refl
 
 pub touching-told : (v : Touching) (out : List ℕ) → touchingTells v out .number ≡ touchingNumber v
 unfolding touchingTells

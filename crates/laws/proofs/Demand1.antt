@@ -16,17 +16,22 @@ use Rattle.timeline.specs.Opening.{openOutcome, openAnswer, openTable, zeroReco
 use Rattle.timeline.specs.Appending.{appendOutcome}
 use Rattle.timeline.specs.Trimming.{trimOutcome}
 use Rattle.answers.specs.Judgement.{verdictAt, verdictWhole}
-use Rattle.answers.specs.Available.{availabilityIn}
+use Rattle.answers.specs.Available.{availabilityIn, availableIn}
+use Rattle.answers.specs.Stamps.{fullTickIn, fullTickNumber}
 use Rattle.answers.specs.Spans.{touchingWords}
 use Rattle.answers.specs.Numbers.{verdictNumber, availabilityNumber, availableNumber, touchingNumber}
 use Rattle.file.specs.Writing.{writeNumber, writeAnswer, fileFor}
 use Rattle.flonterri.specs.Words.{recordOf, headWith}
 use Rattle.flonterri.specs.Tells.{verdictTells, availabilityTells, touchingTells}
 use Rattle.flonterri.specs.Face.{opens, appends, appendsStamp, trims, tellsVerdict, tellsWhole, tellsAvailability, tellsTouching, writes}
+use Rattle.flonterri.specs.Tells.{availableTells, fullTickTells}
+use Rattle.flonterri.specs.Face.{tellsAvailable, tellsFullTick}
 use Rattle.flonterri.proofs.Refusing as refusing
 use Rattle.laws.specs.Refusals.{lowest, overLimit, openRows, appendTickRows, appendStampRows, trimRows, verdictRows, wholeRows, availabilityRows, touchingRows, writeRows}
+use Rattle.laws.specs.Refusals.{availableRows, fullTickRows}
 use Rattle.laws.specs.Demand1.{GivesNumber, lengthRows, ChangesFromC, OpensFromC, TellsC, Answers, Demand1}
 use Rattle.laws.proofs.Refusals.{refusals}
+use Rattle.laws.proofs.Answering.{full-only, available-told, full-told}
 use Rattle.laws.proofs.Answering.{changing, verdict-only, availability-only, available-only, touching-only, no-part, write-leaves, reading, feeding, finishing, changes-number, tells-number, verdict-told, availability-told, touching-told, writes-number, changes-c, tells-c, length-alone, reads-c, writes-c}
 
 -- a number, and what is left where it refuses, of an answer that equals another
@@ -108,6 +113,26 @@ module _ (ws ts : List ℕ) where
       (tells-number ws 3 (availabilityTells v) out rows (availability-told v out ∙ refusals .availability (recordOf ws) ts (record { 0 = n })))
       (refusing.availability-refused ws ts n out) x after e f
 
+  available-c : (n c : ℕ) (out : List ℕ) (x : ℕ) (after : List ℕ) → x ≡ tellsAvailable ws ts n c out .number → after ≡ tellsAvailable ws ts n c out .out →
+      TellsC x ws 1 (availableRows (recordOf ws) ts (record { 0 = n }) (record { 0 = c })) out after
+  unfolding tellsAvailable
+  available-c n c out x after e f =
+      let rows = availableRows (recordOf ws) ts (record { 0 = n }) (record { 0 = c }) in
+      let v = availableIn (recordOf ws) ts (record { 0 = n }) (record { 0 = c }) in
+      tells-c ws 1 rows out (tellsAvailable ws ts n c out)
+      (tells-number ws 1 (availableTells v) out rows (available-told v out ∙ refusals .available-at (recordOf ws) ts (record { 0 = n }) (record { 0 = c })))
+      (refusing.available-refused ws ts n c out) x after e f
+
+  full-c : (stamp : ℕ) (out : List ℕ) (x : ℕ) (after : List ℕ) → x ≡ tellsFullTick ws ts stamp out .number → after ≡ tellsFullTick ws ts stamp out .out →
+      TellsC x ws 2 (fullTickRows (recordOf ws) ts) out after
+  unfolding tellsFullTick
+  full-c stamp out x after e f =
+      let rows = fullTickRows (recordOf ws) ts in
+      let v = fullTickIn (recordOf ws) ts (record { 0 = stamp }) in
+      tells-c ws 2 rows out (tellsFullTick ws ts stamp out)
+      (tells-number ws 2 (fullTickTells v) out rows (full-told v out ∙ refusals .full-tick (recordOf ws) ts (record { 0 = stamp })))
+      (refusing.full-refused ws ts stamp out) x after e f
+
   touching-c : (a b : ℕ) (out : List ℕ) (x : ℕ) (after : List ℕ) → x ≡ tellsTouching ws ts a b out .number → after ≡ tellsTouching ws ts a b out .out →
       TellsC x ws 2 (touchingRows (recordOf ws) ts (record { 0 = a }) (record { 0 = b })) out after
   unfolding tellsTouching
@@ -159,6 +184,8 @@ demand-1 =
       available-at =
           answered (λ κs (rec, (table, (number, (clock, _)))) x e p.
           moved availableNumber x _ p (refusals .available-at rec (now table) number clock) (available-only x));
+      full-tick =
+          answered (λ κs (rec, (table, (stamp, _))) x e p. moved fullTickNumber x _ p (refusals .full-tick rec (now table) stamp) (full-only x));
       touching-words =
           answered (λ κs (rec, (table, (from, (to, _)))) x e p.
           moved touchingNumber x _ p (refusals .touching rec (now table) from to) (touching-only x));
@@ -191,6 +218,11 @@ demand-1 =
       c-verdict-whole = answered (λ κs (rec, (table, (out, _))) x e p. whole-c (now rec) (now table) (now out) x _ (p .0) (p .1));
       c-availability =
           answered (λ κs (rec, (table, (number, (out, _)))) x e p. availability-c (now rec) (now table) number (now out) x _ (p .0) (p .1));
+      c-available-at =
+          answered (λ κs (rec, (table, (number, (clock, (out, _))))) x e p.
+          available-c (now rec) (now table) number clock (now out) x _ (p .0) (p .1));
+      c-full-tick =
+          answered (λ κs (rec, (table, (stamp, (out, _)))) x e p. full-c (now rec) (now table) stamp (now out) x _ (p .0) (p .1));
       c-touching =
           answered (λ κs (rec, (table, (from, (to, (out, _))))) x e p. touching-c (now rec) (now table) from to (now out) x _ (p .0) (p .1));
       c-read =

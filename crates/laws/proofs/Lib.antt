@@ -26,3 +26,4 @@ pub mod Constructors
 pub mod Unique
 pub mod Answering
 pub mod Demand1
+pub mod Stamps

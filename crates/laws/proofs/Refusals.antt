@@ -10,6 +10,10 @@ use lib.ListN.{length}
 use Rattle.units.specs.declared.WideTick.{WideTick}
 use Rattle.units.specs.declared.WideMillis.{WideMillis}
 use Rattle.units.specs.declared.WideNumber.{WideNumber}
+use Rattle.units.specs.declared.Stamp.{Stamp}
+use Rattle.units.specs.declared.full.Full.{Full}
+use Rattle.units.specs.declared.full.Full.the-variants as named
+use Rattle.units.specs.Full.{fullTick}
 use Rattle.units.specs.Limits.{largestMillis}
 use Rattle.window.specs.declared.Head.{Head}
 use Rattle.window.specs.declared.Reference.{Reference}
@@ -24,6 +28,8 @@ use Rattle.answers.specs.declared.Verdict.{Verdict}
 use Rattle.answers.specs.declared.Verdict.the-variants as verdict
 use Rattle.answers.specs.declared.Availability.the-variants as availability
 use Rattle.answers.specs.declared.AvailableAt.the-variants as at
+use Rattle.answers.specs.declared.stamps.FullTick.the-variants as full
+use Rattle.answers.specs.Stamps.{foundTick, fullTickIn, fullTickNumber}
 use Rattle.answers.specs.declared.Touching.{Touching}
 use Rattle.answers.specs.declared.Touching.the-variants as touching
 use Rattle.answers.specs.declared.Numbered.{Numbered}
@@ -36,6 +42,7 @@ use Rattle.answers.specs.Numbers.{verdictNumber, availabilityNumber, availableN
 use Rattle.file.specs.declared.WriteAnswer.the-variants as written
 use Rattle.file.specs.Writing.{fileFor, writeAnswer, writeNumber}
 use Rattle.laws.specs.Refusals.{lowest, some, notKept, Refusals, verdictRows, wholeRows, availabilityRows, availableRows, touchingRows, writeRows}
+use Rattle.laws.specs.Refusals.{fullTickRows}
 use Rattle.laws.proofs.Rows.{over, under, none}
 use Rattle.laws.proofs.Changing.{opening, trim, append, append-stamp}
 
@@ -152,6 +159,14 @@ module _ (rec : Record) (ws : List ℕ) (n : WideNumber) where
       go true false e = refl
       go true true e = kept-found e (λ x. availableNumber (numberAvailable (rec .head) (c .0) x)) refl each
 
+full-number : (rec : Record) (ws : List ℕ) (stamp : Stamp) → fullTickNumber (fullTickIn rec ws stamp) ≡ lowest (fullTickRows rec ws)
+full-number rec ws stamp = by (agrees rec ws) (fullTick stamp (rec .next))
+  where
+    by : (t : Bool) (x : Full) → fullTickNumber (cond t (foundTick x) (full.Refused refusal.Disagreement)) ≡ lowest ((not t, 2) ∷ [])
+    by true (named.At tick) = refl
+    by true named.Nowhere = refl
+    by false x = refl
+
 touching-number : (rec : Record) (ws : List ℕ) (a b : WideTick) →
     touchingNumber (touchingWords rec ws a b) ≡ lowest (touchingRows rec ws a b)
 touching-number rec ws a b =
@@ -197,6 +212,7 @@ refusals =
       verdict-whole = verdict-whole;
       availability = availability-number;
       available-at = available-number;
+      full-tick = full-number;
       touching = touching-number;
       write = write-number;
     }

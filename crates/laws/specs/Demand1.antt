@@ -1,7 +1,7 @@
 -- Demand 1. Every entry point takes any input, and answers it with the paper's number: the lowest whose condition holds, 0 where none does
 -- (the rows of Refusals, and for a file those of Lines). A refused call returns the record as it came and changes no word and no byte,
 -- with these exceptions. A refused opening answers a zero record. A refused reading answers a zero record and the line, and zeroes the
--- table. The part that a span lookup hands back is empty. A verdict and an availability give their number and nothing else. Of each
+-- table. The part that a span lookup hands back is empty. A verdict, an availability and a full tick give their number and nothing else. Of each
 -- function this is said over the contract that the check itself makes of it (Unique says what its parts are, and has the functions that
 -- never refuse). For C the lengths of record and out are judged first.
 -- Paper: Refusal numbers; What a statement must leave no room for.
@@ -23,8 +23,10 @@ use Rattle.timeline.specs.Opening.{zeroRecord}
 use Rattle.answers.specs.declared.Verdict.the-variants.{Refused as VerdictRefused}
 use Rattle.answers.specs.declared.Availability.the-variants.{Refused as AvailabilityRefused}
 use Rattle.answers.specs.declared.AvailableAt.the-variants.{Refused as AvailableRefused}
+use Rattle.answers.specs.declared.stamps.FullTick.the-variants.{Refused as FullTickRefused}
 use Rattle.answers.specs.declared.Touching.the-variants.{Refused as TouchingRefused}
 use Rattle.answers.specs.Numbers.{verdictNumber, availabilityNumber, availableNumber, touchingNumber}
+use Rattle.answers.specs.Stamps.{fullTickNumber}
 use Rattle.file.specs.declared.Reader.{Reader}
 use Rattle.file.specs.declared.ReadAnswer.{ReadAnswer}
 use Rattle.file.specs.Feeding.{belongs}
@@ -36,6 +38,7 @@ use Rattle.file.proofs as file
 use Rattle.report.proofs as report
 use Rattle.flonterri.proofs as c
 use Rattle.laws.specs.Refusals.{lowest, openRows, appendTickRows, appendStampRows, trimRows, verdictRows, wholeRows, availabilityRows, availableRows, touchingRows, writeRows}
+use Rattle.laws.specs.Refusals.{fullTickRows}
 use Rattle.laws.specs.Lines.{judgedFile}
 use Rattle.laws.specs.Unique.{AnyInput}
 
@@ -140,6 +143,8 @@ pub record Demand1 : Type 0 where
   pub available-at : Answers answers.times.available_at.Reads.Asked answers.times.available_at.Reads.Learnt
       (λ (rec, (table, (number, (clock, _)))) x _.
       GivesNumber (availableNumber x) (availableRows rec (now table) number clock) (Only AvailableRefused x))
+  pub full-tick : Answers answers.stamps.full_tick.Reads.Asked answers.stamps.full_tick.Reads.Learnt
+      (λ (rec, (table, _)) x _. GivesNumber (fullTickNumber x) (fullTickRows rec (now table)) (Only FullTickRefused x))
   pub touching-words : Answers answers.spans.touching_words.Reads.Asked answers.spans.touching_words.Reads.Learnt
       (λ (rec, (table, (from, (to, _)))) x _. GivesNumber (touchingNumber x) (touchingRows rec (now table) from to) (Only TouchingRefused x))
   -- the part of the table itself gives no number: it is empty where the span lookup refuses
@@ -187,6 +192,12 @@ pub record Demand1 : Type 0 where
   pub c-availability : Answers c.flonterri_availability.Reads.Asked c.flonterri_availability.Reads.Learnt
       (λ (rec, (table, (number, (out, _)))) x (_, (_, (_, (out′, _)))).
       TellsC x (now rec) 3 (availabilityRows (recordOf (now rec)) (now table) (record { 0 = number })) (now out) (now out′))
+  pub c-available-at : Answers c.flonterri_available_at.Reads.Asked c.flonterri_available_at.Reads.Learnt
+      (λ (rec, (table, (number, (clock, (out, _))))) x (_, (_, (_, (_, (out′, _))))).
+      TellsC x (now rec) 1 (availableRows (recordOf (now rec)) (now table) (record { 0 = number }) (record { 0 = clock })) (now out) (now out′))
+  pub c-full-tick : Answers c.flonterri_full_tick.Reads.Asked c.flonterri_full_tick.Reads.Learnt
+      (λ (rec, (table, (_, (out, _)))) x (_, (_, (_, (out′, _)))).
+      TellsC x (now rec) 2 (fullTickRows (recordOf (now rec)) (now table)) (now out) (now out′))
   pub c-touching : Answers c.flonterri_touching.Reads.Asked c.flonterri_touching.Reads.Learnt
       (λ (rec, (table, (from, (to, (out, _))))) x (_, (_, (_, (_, (out′, _))))).
       TellsC x (now rec) 2 (touchingRows (recordOf (now rec)) (now table) (record { 0 = from }) (record { 0 = to })) (now out) (now out′))

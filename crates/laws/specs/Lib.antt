@@ -10,3 +10,4 @@ pub mod Refusals
 pub mod Spent
 pub mod Unique
 pub mod Demand1
+pub mod Stamps

@@ -29,6 +29,7 @@ use Rattle.timeline.specs.Appending.{appendAnswer}
 use Rattle.timeline.specs.Trimming.{trimAnswer}
 use Rattle.answers.specs.Judgement.{verdictAt, verdictWhole}
 use Rattle.answers.specs.Available.{availabilityIn, availableIn}
+use Rattle.answers.specs.Stamps.{fullTickIn, fullTickNumber}
 use Rattle.answers.specs.Spans.{touchingWords}
 use Rattle.answers.specs.Numbers.{verdictNumber, availabilityNumber, availableNumber, touchingNumber}
 use Rattle.file.specs.Writing.{fileFor, writeAnswer, writeNumber}
@@ -109,6 +110,9 @@ availabilityRows rec ws n = (not (agrees rec ws), 2) ∷ (notKept rec n, 13) ∷
 abbrev pub availableRows : Record → List ℕ → WideNumber → WideMillis → List (Bool × ℕ)
 availableRows rec ws n c = (not (agrees rec ws), 2) ∷ (ltb largestMillis (c .0), 10) ∷ (notKept rec n, 13) ∷ []
 
+abbrev pub fullTickRows : Record → List ℕ → List (Bool × ℕ)
+fullTickRows rec ws = (not (agrees rec ws), 2) ∷ []
+
 abbrev pub touchingRows : Record → List ℕ → WideTick → WideTick → List (Bool × ℕ)
 touchingRows rec ws a b = (not (agrees rec ws), 2) ∷ (leb (b .0) (a .0), 14) ∷ []
 
@@ -128,5 +132,6 @@ pub record Refusals : Type 0 where
   pub availability : (rec : Record) (ws : List ℕ) (n : WideNumber) → availabilityNumber (availabilityIn rec ws n) ≡ lowest (availabilityRows rec ws n)
   pub available-at : (rec : Record) (ws : List ℕ) (n : WideNumber) (c : WideMillis) →
       availableNumber (availableIn rec ws n c) ≡ lowest (availableRows rec ws n c)
+  pub full-tick : (rec : Record) (ws : List ℕ) (stamp : Stamp) → fullTickNumber (fullTickIn rec ws stamp) ≡ lowest (fullTickRows rec ws)
   pub touching : (rec : Record) (ws : List ℕ) (a b : WideTick) → touchingNumber (touchingWords rec ws a b) ≡ lowest (touchingRows rec ws a b)
   pub write : (rec : Record) (ws : List ℕ) (room : ℕ) → writeNumber (writeAnswer rec ws room) ≡ lowest (writeRows rec ws room)

@@ -46,7 +46,7 @@ out = λ (_, (_, (out, _))). now out
 abbrev pub out-after-one : {P Q S A R : Type 0} → P × (Q × (S × (RefT A × R))) → A
 out-after-one = λ (_, (_, (_, (out, _)))). now out
 
--- record, table, the two ticks of a span, out
+-- record, table, the two ticks of a span or a number and a clock, out
 abbrev pub out-after-two : {P Q S T A R : Type 0} → P × (Q × (S × (T × (RefT A × R)))) → A
 out-after-two = λ (_, (_, (_, (_, (out, _))))). now out
 
@@ -109,10 +109,12 @@ pub record Entries : Type 0 where
   pub percent-number : Entry answers.Percent.number.Reads.Asked answers.Percent.number.Reads.Learnt
   pub availability : Entry answers.times.availability.Reads.Asked answers.times.availability.Reads.Learnt
   pub available-at : Entry answers.times.available_at.Reads.Asked answers.times.available_at.Reads.Learnt
+  pub full-tick : Entry answers.stamps.full_tick.Reads.Asked answers.stamps.full_tick.Reads.Learnt
   pub touching-words : Entry answers.spans.touching_words.Reads.Asked answers.spans.touching_words.Reads.Learnt
   pub verdict-number : Entry answers.Verdict.number.Reads.Asked answers.Verdict.number.Reads.Learnt
   pub availability-number : Entry answers.Availability.number.Reads.Asked answers.Availability.number.Reads.Learnt
   pub available-number : Entry answers.AvailableAt.number.Reads.Asked answers.AvailableAt.number.Reads.Learnt
+  pub full-tick-number : Entry answers.stamps.FullTick.number.Reads.Asked answers.stamps.FullTick.number.Reads.Learnt
   pub touching-number : Entry answers.Touching.number.Reads.Asked answers.Touching.number.Reads.Learnt
   -- the part handed back, by its words
   pub touching-any : AnyInput answers.spans.touching.Reads.Asked
@@ -144,6 +146,8 @@ pub record Entries : Type 0 where
   pub c-verdict : Lending c.flonterri_verdict.Reads.Asked c.flonterri_verdict.Reads.Learnt out-after-one
   pub c-verdict-whole : Lending c.flonterri_verdict_whole.Reads.Asked c.flonterri_verdict_whole.Reads.Learnt out
   pub c-availability : Lending c.flonterri_availability.Reads.Asked c.flonterri_availability.Reads.Learnt out-after-one
+  pub c-available-at : Lending c.flonterri_available_at.Reads.Asked c.flonterri_available_at.Reads.Learnt out-after-two
+  pub c-full-tick : Lending c.flonterri_full_tick.Reads.Asked c.flonterri_full_tick.Reads.Learnt out-after-one
   pub c-touching : Lending c.flonterri_touching.Reads.Asked c.flonterri_touching.Reads.Learnt out-after-two
   pub c-read : Lending c.flonterri_read.Reads.Asked c.flonterri_read.Reads.Learnt record-table-out
   pub c-write : Lending c.flonterri_write.Reads.Asked c.flonterri_write.Reads.Learnt bytes-and-out
@@ -180,6 +184,7 @@ pub record Entries : Type 0 where
   pub number-new : Entry units.Number.new.Reads.Asked units.Number.new.Reads.Learnt
   pub grain-between : Entry units.Grain.between.Reads.Asked units.Grain.between.Reads.Learnt
   pub stamp-against : Entry units.Stamp.against.Reads.Asked units.Stamp.against.Reads.Learnt
+  pub stamp-full : Entry units.Stamp.full.Reads.Asked units.Stamp.full.Reads.Learnt
   pub tick-against : Entry units.WideTick.against.Reads.Asked units.WideTick.against.Reads.Learnt
 
 -- the inner functions that are public: their callers show what they ask
