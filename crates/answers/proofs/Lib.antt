@@ -10,3 +10,4 @@ pub mod Offering
 pub mod Spanning
 pub mod Exact
 pub mod Completeness
+pub mod Edging

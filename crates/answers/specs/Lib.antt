@@ -4,6 +4,7 @@ pub mod Judgement
 pub mod Shares
 pub mod Available
 pub mod Spans
+pub mod Edge
 pub mod Numbers
 pub mod Ranges
 pub mod Steps

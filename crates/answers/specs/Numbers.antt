@@ -9,6 +9,8 @@ use Rattle.answers.specs.declared.AvailableAt.{AvailableAt}
 use Rattle.answers.specs.declared.AvailableAt.the-variants as at
 use Rattle.answers.specs.declared.Touching.{Touching}
 use Rattle.answers.specs.declared.Touching.the-variants as touching
+use Rattle.answers.specs.declared.CoveredEdge.{CoveredEdge}
+use Rattle.answers.specs.declared.CoveredEdge.the-variants as edge
 
 abbrev pub verdictNumber : Verdict → ℕ
 verdictNumber verdict.Nothing = 0
@@ -29,3 +31,8 @@ availableNumber (at.Refused why) = refusalNumber why
 abbrev pub touchingNumber : Touching → ℕ
 touchingNumber (touching.Words from to) = 0
 touchingNumber (touching.Refused why) = refusalNumber why
+
+abbrev pub edgeNumber : CoveredEdge → ℕ
+edgeNumber (edge.At clock) = 0
+edgeNumber edge.Never = 0
+edgeNumber (edge.Refused why) = refusalNumber why

@@ -1,12 +1,14 @@
 // The calls that look: what is needed and covered, when a reference is available, which runs touch
-// a span. None of them changes a word.
+// a span, up to which clock the window ends in what was appended. None of them changes a word.
 ghost use mathlib.Core.Path.{_≡_};
-ghost use Rattle.answers.specs.Numbers.{verdictNumber, availabilityNumber, availableNumber, touchingNumber};
+ghost use Rattle.answers.specs.Numbers.{verdictNumber, availabilityNumber, availableNumber, touchingNumber, edgeNumber};
 use agreement::Refusal;
 use units::Grain;
+use units::Millis;
 use units::WideTick;
 use window::Reference;
 
+pub mod edges;
 mod numbers;
 pub mod shares;
 pub mod spans;
@@ -53,6 +55,13 @@ pub enum Numbered {
 // The words from one up to another, that one excluded: both 0 if no run touches.
 pub enum Touching {
     Words(usize, usize),
+    Refused(Refusal),
+}
+
+// The latest clock at which the window's upper edge has not passed the next tick, or none.
+pub enum CoveredEdge {
+    At(Millis),
+    Never,
     Refused(Refusal),
 }
 
@@ -104,6 +113,19 @@ impl Touching {
         match self {
             Touching::Words(_, _) => 0,
             Touching::Refused(why) => why.number(),
+        }
+    }
+}
+
+impl CoveredEdge {
+    // The paper's number, 0 where the call is not refused.
+    pub fn number(self) -> u32
+        ensures { λ r. ⌜ r ≡ edgeNumber self ⌝ }
+    {
+        match self {
+            CoveredEdge::At(_) => 0,
+            CoveredEdge::Never => 0,
+            CoveredEdge::Refused(why) => why.number(),
         }
     }
 }

@@ -98,7 +98,7 @@ module _ (h : Head) where
   unfolding place
   place-is k = is-mul (pos k -ℤ pos (h .offset .0)) k (h .offset .0) 1000 (is-less k (h .offset .0))
 
-  moment-is : (m : ℤ) (a b : ℕ) → Is m a b → Is (moment h m) (a * h .timescale .0) ((b + h .start .0) * h .timescale .0)
+  pub moment-is : (m : ℤ) (a b : ℕ) → Is m a b → Is (moment h m) (a * h .timescale .0) ((b + h .start .0) * h .timescale .0)
   unfolding moment
   moment-is m a b e =
       let s : Is (m -ℤ pos (h .start .0)) (a + 0) (b + h .start .0) = is-sub m (pos (h .start .0)) a b (h .start .0) 0 e (is-pos (h .start .0)) in
