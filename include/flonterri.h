@@ -39,6 +39,7 @@ extern "C" {
 #define FLONTERRI_AVAILABLE_WORDS 1
 #define FLONTERRI_FULL_TICK_WORDS 2
 #define FLONTERRI_TOUCHING_WORDS 2
+#define FLONTERRI_EDGE_WORDS 2
 #define FLONTERRI_READ_WORDS 1
 #define FLONTERRI_WRITE_WORDS 1
 
@@ -118,6 +119,18 @@ enum flonterri_full_tick_kind {
 enum flonterri_touching_word {
     FLONTERRI_TOUCHING_FROM = 0,
     FLONTERRI_TOUCHING_TO = 1
+};
+
+/* Where each word of a covered edge stands in out: the kind, and the clock. */
+enum flonterri_edge_word {
+    FLONTERRI_EDGE_KIND = 0,
+    FLONTERRI_EDGE_CLOCK = 1
+};
+
+/* The kinds of a covered edge. */
+enum flonterri_edge_kind {
+    FLONTERRI_NO_EDGE = 0,
+    FLONTERRI_EDGE_AT = 1
 };
 
 /* What a function answers. Where several numbers apply to a call, it answers the lowest; a file's
@@ -207,6 +220,16 @@ uint32_t flonterri_full_tick(const uint64_t *record, size_t record_words, const 
  * nothing. No null. */
 uint32_t flonterri_touching(const uint64_t *record, size_t record_words, const uint64_t *table, size_t table_words,
                             uint64_t a, uint64_t b, uint64_t *out, size_t out_words);
+
+/* The covered edge: the latest clock, within its limit, at which the window's upper edge is at or before the
+ * next tick. At a later clock whose window is not empty no verdict is complete: references are missing at its
+ * end. It is the limit where the next tick reaches a known period end, and there is none where the upper edge
+ * lies after the next tick at clock 0 already. It does not say that a verdict is complete up to it: it knows
+ * nothing of the lower edge, where older references may be missing. And it may lie before the greatest clock,
+ * where a verdict is 11. out has 2 words, as flonterri_edge_word names them; where there is no edge, both are
+ * 0. Refusals 2, and 15 for out. Changes out alone; refused it changes nothing. */
+uint32_t flonterri_covered_edge(const uint64_t *record, size_t record_words, const uint64_t *table,
+                                size_t table_words, uint64_t *out, size_t out_words);
 
 /* Reads a whole file into record and table, as opening plus appends. out has 1 word: the refused line, counted
  * from 1, or 0 where the file is accepted. Refusals 1, 3 to 9, 16, 17, 18. Refused so, it zeroes record and

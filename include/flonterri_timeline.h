@@ -85,6 +85,12 @@ struct flonterri_runs {
     size_t count; /* how many runs */
 };
 
+/* A covered edge. */
+struct flonterri_edge_answer {
+    enum flonterri_edge_kind kind;
+    uint64_t clock; /* in milliseconds from availabilityStartTime; 0 where there is no edge */
+};
+
 /* ---- the calls that change */
 
 /* A timeline over a table of so many words, with zeros for a record, before it is opened or read. No null. */
@@ -222,6 +228,22 @@ static inline uint32_t flonterri_timeline_touching(const struct flonterri_timeli
     if (refusal == FLONTERRI_OK) {
         runs->words = timeline->table + out[FLONTERRI_TOUCHING_FROM];
         runs->count = (size_t)(out[FLONTERRI_TOUCHING_TO] - out[FLONTERRI_TOUCHING_FROM]) / FLONTERRI_RUN_WORDS;
+    }
+    return refusal;
+}
+
+/* The covered edge: later than this clock no verdict is complete, as flonterri.h says, and up to it one need
+ * not be. Refusal 2. */
+static inline uint32_t flonterri_timeline_covered_edge(const struct flonterri_timeline *timeline,
+                                                       struct flonterri_edge_answer *answer)
+{
+    uint64_t out[FLONTERRI_EDGE_WORDS] = {0};
+    uint32_t refusal = flonterri_covered_edge(timeline->record, FLONTERRI_RECORD_WORDS, timeline->table,
+                                              timeline->table_words, out, FLONTERRI_EDGE_WORDS);
+
+    if (refusal == FLONTERRI_OK) {
+        answer->kind = (enum flonterri_edge_kind)out[FLONTERRI_EDGE_KIND];
+        answer->clock = out[FLONTERRI_EDGE_CLOCK];
     }
     return refusal;
 }

@@ -30,6 +30,8 @@ use Rattle.answers.specs.declared.stamps.FullTick.{FullTick}
 use Rattle.answers.specs.declared.stamps.FullTick.the-variants as full
 use Rattle.answers.specs.declared.Touching.{Touching}
 use Rattle.answers.specs.declared.Touching.the-variants as touching
+use Rattle.answers.specs.declared.CoveredEdge.{CoveredEdge}
+use Rattle.answers.specs.declared.CoveredEdge.the-variants as edge
 use Rattle.answers.specs.Judgement.{verdictAt, verdictWhole, complete}
 use Rattle.answers.specs.Shares.{verdictPercent, percentNumber, hundred}
 use Rattle.answers.proofs.Completeness.{percent-at, percent-whole}
@@ -38,10 +40,8 @@ use Rattle.file.specs.declared.WriteAnswer.the-variants as written
 use Rattle.file.specs.Judging.{readLines, readOutcome, answeredBy, readAnswer, readTable, zeroed}
 use Rattle.file.specs.Writing.{writeAnswer, outputBy, fileFor}
 use Rattle.flonterri.specs.Words.{recordWords, recordOf, wordsOf, headWith}
-use Rattle.flonterri.specs.Tells.{Tells, verdictOut, verdictTells, availabilityOut, availabilityTells, touchingOut, touchingTells, writeOut, writeTells}
-use Rattle.flonterri.specs.Face.{wrongRecord, wrongLength, guarded, Changes, changes, opens, appends, appendsStamp, trims, tells, tellsVerdict, tellsWhole, tellsAvailability, tellsTouching, Reads, readsBy, reads, Writes, writesBy, writes}
-use Rattle.flonterri.specs.Tells.{availableOut, availableTells, fullTickOut, fullTickTells}
-use Rattle.flonterri.specs.Face.{tellsAvailable, tellsFullTick}
+use Rattle.flonterri.specs.Tells.{Tells, verdictOut, verdictTells, availabilityOut, availabilityTells, touchingOut, touchingTells, writeOut, writeTells, availableOut, availableTells, fullTickOut, fullTickTells, edgeOut, edgeTells}
+use Rattle.flonterri.specs.Face.{wrongRecord, wrongLength, guarded, Changes, changes, opens, appends, appendsStamp, trims, tells, tellsVerdict, tellsWhole, tellsAvailability, tellsTouching, Reads, readsBy, reads, Writes, writesBy, writes, tellsAvailable, tellsFullTick, tellsEdge}
 use Rattle.flonterri.proofs.Words.{words-record}
 use Rattle.flonterri.proofs.Lengths.{both-right, behind}
 
@@ -139,6 +139,12 @@ unfolding touchingTells touchingOut
 touching-silent (touching.Words a b) out k = absurd (k refl)
 touching-silent (touching.Refused why) out k = refl
 
+pub edge-silent : (v : CoveredEdge) (out : List ℕ) → (edgeTells v out .number ≡ 0 → ⊥) → edgeTells v out .out ≡ out
+unfolding edgeTells edgeOut
+edge-silent edge.Never out k = absurd (k refl)
+edge-silent (edge.At clock) out k = absurd (k refl)
+edge-silent (edge.Refused why) out k = refl
+
 -- and so a refused call that looks leaves out as it came
 pub refused-tells :
     {A : Type 0} (ws : List ℕ) (size : ℕ) (call : List A → Tells A) (out : List A)
@@ -179,6 +185,10 @@ module _ (ws ts : List ℕ) where
   pub touching-refused : (a b : ℕ) (out : List ℕ) → (tellsTouching ws ts a b out .number ≡ 0 → ⊥) → tellsTouching ws ts a b out .out ≡ out
   unfolding tellsTouching
   touching-refused a b out k = refused-tells ws 2 _ out (touching-silent _ out) k
+
+  pub edge-refused : (out : List ℕ) → (tellsEdge ws ts out .number ≡ 0 → ⊥) → tellsEdge ws ts out .out ≡ out
+  unfolding tellsEdge
+  edge-refused out k = refused-tells ws 2 _ out (edge-silent _ out) k
 
 -- ---- the file
 

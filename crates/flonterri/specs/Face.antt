@@ -21,13 +21,13 @@ use Rattle.answers.specs.Judgement.{verdictAt, verdictWhole}
 use Rattle.answers.specs.Available.{availabilityIn, availableIn}
 use Rattle.answers.specs.Stamps.{fullTickIn}
 use Rattle.answers.specs.Spans.{touchingWords}
+use Rattle.answers.specs.Edge.{coveredEdge}
 use Rattle.file.specs.declared.ReadAnswer.{ReadAnswer}
 use Rattle.file.specs.declared.WriteAnswer.{WriteAnswer}
 use Rattle.file.specs.Judging.{readAnswer, readTable}
 use Rattle.file.specs.Writing.{writeAnswer, outputBy, fileFor}
 use Rattle.flonterri.specs.Words.{recordWords, headWith, recordOf, wordsOf}
-use Rattle.flonterri.specs.Tells.{Tells, verdictTells, availabilityTells, touchingTells, writeTells}
-use Rattle.flonterri.specs.Tells.{availableTells, fullTickTells}
+use Rattle.flonterri.specs.Tells.{Tells, verdictTells, availabilityTells, touchingTells, writeTells, availableTells, fullTickTells, edgeTells}
 
 -- ---- guarded by lengths
 
@@ -100,6 +100,9 @@ tellsFullTick ws ts stamp out = tells ws 2 (fullTickTells (fullTickIn (recordOf 
 
 unfoldable pub tellsTouching : List ℕ → List ℕ → ℕ → ℕ → List ℕ → Tells ℕ
 tellsTouching ws ts a b out = tells ws 2 (touchingTells (touchingWords (recordOf ws) ts (record { 0 = a }) (record { 0 = b }))) out
+
+unfoldable pub tellsEdge : List ℕ → List ℕ → List ℕ → Tells ℕ
+tellsEdge ws ts out = tells ws 2 (edgeTells (coveredEdge (recordOf ws) ts)) out
 
 -- ---- the file
 

@@ -13,8 +13,9 @@ use Rattle.answers.specs.declared.stamps.FullTick.{FullTick}
 use Rattle.answers.specs.declared.stamps.FullTick.the-variants as full
 use Rattle.answers.specs.declared.Touching.{Touching}
 use Rattle.answers.specs.declared.Touching.the-variants as touching
-use Rattle.answers.specs.Numbers.{verdictNumber, availabilityNumber, touchingNumber}
-use Rattle.answers.specs.Numbers.{availableNumber}
+use Rattle.answers.specs.Numbers.{verdictNumber, availabilityNumber, touchingNumber, availableNumber, edgeNumber}
+use Rattle.answers.specs.declared.CoveredEdge.{CoveredEdge}
+use Rattle.answers.specs.declared.CoveredEdge.the-variants as edge
 use Rattle.answers.specs.Shares.{verdictPercent, percentNumber}
 use Rattle.answers.specs.Stamps.{fullTickNumber}
 use Rattle.file.specs.declared.WriteAnswer.{WriteAnswer}
@@ -71,6 +72,15 @@ touchingOut (touching.Refused why) out = out
 
 unfoldable pub touchingTells : Touching → List ℕ → Tells ℕ
 touchingTells t out = record { number = touchingNumber t; out = touchingOut t out }
+
+-- kind (0 none, 1 a clock), the clock
+unfoldable pub edgeOut : CoveredEdge → List ℕ → List ℕ
+edgeOut edge.Never out = 0 ∷ 0 ∷ []
+edgeOut (edge.At clock) out = 1 ∷ clock .0 ∷ []
+edgeOut (edge.Refused why) out = out
+
+unfoldable pub edgeTells : CoveredEdge → List ℕ → Tells ℕ
+edgeTells e out = record { number = edgeNumber e; out = edgeOut e out }
 
 -- the length written
 unfoldable pub writeOut : WriteAnswer → List ℕ → List ℕ

@@ -15,6 +15,7 @@ pub use changing::flonterri_trim;
 pub use filing::flonterri_read;
 pub use filing::flonterri_write;
 pub use looking::flonterri_availability;
+pub use looking::flonterri_covered_edge;
 pub use looking::flonterri_touching;
 pub use looking::flonterri_verdict;
 pub use looking::flonterri_verdict_whole;

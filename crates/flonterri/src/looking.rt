@@ -1,16 +1,18 @@
-// The calls that look: verdicts, availability, the runs that touch a span. What is told goes into
-// the caller's `out`, which a refused call leaves as it came.
+// The calls that look: verdicts, availability, the runs that touch a span, the covered edge. What is
+// told goes into the caller's `out`, which a refused call leaves as it came.
 ghost use mathlib.Core.Path.{_≡_};
 ghost use mathlib.Core.List.{[], _∷_};
 ghost use lib.ListN.{length};
-ghost use Rattle.answers.specs.Numbers.{verdictNumber, availabilityNumber, touchingNumber};
-ghost use Rattle.flonterri.specs.Tells.{verdictOut, availabilityOut, touchingOut};
-ghost use Rattle.flonterri.specs.Face.{tellsVerdict, tellsWhole, tellsAvailability, tellsTouching};
+ghost use Rattle.answers.specs.Numbers.{verdictNumber, availabilityNumber, touchingNumber, edgeNumber};
+ghost use Rattle.flonterri.specs.Tells.{verdictOut, availabilityOut, touchingOut, edgeOut};
+ghost use Rattle.flonterri.specs.Face.{tellsVerdict, tellsWhole, tellsAvailability, tellsTouching, tellsEdge};
 use crate::packing::record_of;
 use crate::packing::wrong_length;
 use answers::Availability;
+use answers::CoveredEdge;
 use answers::Touching;
 use answers::Verdict;
+use answers::edges;
 use answers::spans;
 use answers::times;
 use answers::verdicts;
@@ -23,6 +25,8 @@ const VERDICT_WORDS: usize = 5;
 const AVAILABILITY_WORDS: usize = 3;
 
 const TOUCHING_WORDS: usize = 2;
+
+const EDGE_WORDS: usize = 2;
 
 // Inner, since there must be 5 words: writes over all of them.
 fn put_five(out: &mut [u64], kind: u64, needed: u64, covered: u64, lowest: u64, percent: u64)
@@ -124,6 +128,28 @@ fn tell_touching(out: &mut [u64], touching: Touching) -> u32
     touching.number()
 }
 
+// Inner, since out must have its length: puts the edge there.
+fn put_edge(out: &mut [u64], edge: CoveredEdge)
+    requires { ⌜ length (now out) ≡ 2 ⌝ }
+    ensures { λ _. ⌜ now (out .exit) ≡ edgeOut edge (now (out .entry)) ⌝ }
+{
+    match edge {
+        CoveredEdge::Never => put_two(out, 0, 0),
+        CoveredEdge::At(clock) => put_two(out, 1, clock.0),
+        CoveredEdge::Refused(_) => {}
+    }
+}
+
+// Inner, as above: puts the edge there, and answers the number.
+fn tell_edge(out: &mut [u64], edge: CoveredEdge) -> u32
+    requires { ⌜ length (now out) ≡ 2 ⌝ }
+    ensures { λ r. ⌜ r ≡ edgeNumber edge ⌝ }
+    ensures { λ _. ⌜ now (out .exit) ≡ edgeOut edge (now (out .entry)) ⌝ }
+{
+    put_edge(out, edge);
+    edge.number()
+}
+
 // The verdict at a clock.
 #[no_mangle]
 pub extern "C" fn flonterri_verdict(
@@ -194,4 +220,18 @@ pub extern "C" fn flonterri_touching(
     }
     let touching = spans::touching_words(record_of(record), table, WideTick(a), WideTick(b));
     tell_touching(out, touching)
+}
+
+// The covered edge: the latest clock at which the window's upper edge has not passed the next tick.
+#[no_mangle]
+pub extern "C" fn flonterri_covered_edge(record: &[u64], table: &[u64], out: &mut [u64]) -> u32
+    ensures { λ r. ⌜ r ≡ tellsEdge (now («record» .entry)) (now (table .entry)) (now (out .entry)) .number ⌝ }
+    ensures { λ _. ⌜ now (out .exit) ≡ tellsEdge (now («record» .entry)) (now (table .entry)) (now (out .entry)) .out ⌝ }
+{
+    let wrong = wrong_length(record.len(), out.len(), EDGE_WORDS);
+    if wrong != 0 {
+        return wrong;
+    }
+    let edge = edges::covered_edge(record_of(record), table);
+    tell_edge(out, edge)
 }

@@ -27,7 +27,9 @@ use Rattle.answers.specs.declared.stamps.FullTick.the-variants as full
 use Rattle.answers.specs.Stamps.{fullTickNumber}
 use Rattle.answers.specs.declared.Touching.{Touching}
 use Rattle.answers.specs.declared.Touching.the-variants as touching
-use Rattle.answers.specs.Numbers.{verdictNumber, availabilityNumber, availableNumber, touchingNumber}
+use Rattle.answers.specs.declared.CoveredEdge.{CoveredEdge}
+use Rattle.answers.specs.declared.CoveredEdge.the-variants as edge
+use Rattle.answers.specs.Numbers.{verdictNumber, availabilityNumber, availableNumber, touchingNumber, edgeNumber}
 use Rattle.answers.specs.Spans.{partOf}
 use Rattle.file.specs.declared.Reader.{Reader}
 use Rattle.file.specs.declared.Reading.{Reading}
@@ -40,7 +42,7 @@ use Rattle.file.specs.SoFar.{soFar, firstBytes}
 use Rattle.file.specs.Feeding.{belongs, fedFile, fedReader, fedTable, finishOutcome, finishAnswer, finishTable}
 use Rattle.file.specs.Writing.{writeNumber, outputBy}
 use Rattle.flonterri.specs.Words.{recordWords, wordsOf}
-use Rattle.flonterri.specs.Tells.{Tells, verdictTells, availabilityTells, touchingTells, writeTells}
+use Rattle.flonterri.specs.Tells.{Tells, verdictTells, availabilityTells, touchingTells, edgeTells, writeTells}
 use Rattle.flonterri.specs.Face.{wrongRecord, wrongLength, guarded, changes, tells, readsBy, reads, writesBy, Changes as Seen, Reads as Readings, Writes as Wrote}
 use Rattle.flonterri.specs.Tells.{availableTells, fullTickTells}
 use Rattle.flonterri.proofs.Refusing.{read-refused}
@@ -87,6 +89,11 @@ full-only (full.Refused why) k = (why, refl)
 pub touching-only : (v : Touching) → (touchingNumber v ≡ 0 → ⊥) → Only touching.Refused v
 touching-only (touching.Words a b) k = absurd (k refl)
 touching-only (touching.Refused why) k = (why, refl)
+
+pub edge-only : (v : CoveredEdge) → (edgeNumber v ≡ 0 → ⊥) → Only edge.Refused v
+edge-only (edge.At m) k = absurd (k refl)
+edge-only edge.Never k = absurd (k refl)
+edge-only (edge.Refused why) k = (why, refl)
 
 pub no-part : (v : Touching) (ws : List ℕ) → (touchingNumber v ≡ 0 → ⊥) → partOf v ws ≡ []
 no-part (touching.Words a b) ws k = absurd (k refl)
@@ -198,6 +205,12 @@ pub touching-told : (v : Touching) (out : List ℕ) → touchingTells v out .num
 unfolding touchingTells
 touching-told (touching.Words a b) out = refl
 touching-told (touching.Refused why) out = refl
+
+pub edge-told : (v : CoveredEdge) (out : List ℕ) → edgeTells v out .number ≡ edgeNumber v
+unfolding edgeTells
+edge-told (edge.At m) out = refl
+edge-told edge.Never out = refl
+edge-told (edge.Refused why) out = refl
 
 write-told : (v : WriteAnswer) (out : List ℕ) → writeTells v out .number ≡ writeNumber v
 unfolding writeTells

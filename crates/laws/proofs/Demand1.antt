@@ -19,20 +19,17 @@ use Rattle.answers.specs.Judgement.{verdictAt, verdictWhole}
 use Rattle.answers.specs.Available.{availabilityIn, availableIn}
 use Rattle.answers.specs.Stamps.{fullTickIn, fullTickNumber}
 use Rattle.answers.specs.Spans.{touchingWords}
-use Rattle.answers.specs.Numbers.{verdictNumber, availabilityNumber, availableNumber, touchingNumber}
+use Rattle.answers.specs.Edge.{coveredEdge}
+use Rattle.answers.specs.Numbers.{verdictNumber, availabilityNumber, availableNumber, touchingNumber, edgeNumber}
 use Rattle.file.specs.Writing.{writeNumber, writeAnswer, fileFor}
 use Rattle.flonterri.specs.Words.{recordOf, headWith}
-use Rattle.flonterri.specs.Tells.{verdictTells, availabilityTells, touchingTells}
-use Rattle.flonterri.specs.Face.{opens, appends, appendsStamp, trims, tellsVerdict, tellsWhole, tellsAvailability, tellsTouching, writes}
-use Rattle.flonterri.specs.Tells.{availableTells, fullTickTells}
-use Rattle.flonterri.specs.Face.{tellsAvailable, tellsFullTick}
+use Rattle.flonterri.specs.Tells.{verdictTells, availabilityTells, touchingTells, availableTells, fullTickTells, edgeTells}
+use Rattle.flonterri.specs.Face.{opens, appends, appendsStamp, trims, tellsVerdict, tellsWhole, tellsAvailability, tellsTouching, writes, tellsAvailable, tellsFullTick, tellsEdge}
 use Rattle.flonterri.proofs.Refusing as refusing
-use Rattle.laws.specs.Refusals.{lowest, overLimit, openRows, appendTickRows, appendStampRows, trimRows, verdictRows, wholeRows, availabilityRows, touchingRows, writeRows}
-use Rattle.laws.specs.Refusals.{availableRows, fullTickRows}
+use Rattle.laws.specs.Refusals.{lowest, overLimit, openRows, appendTickRows, appendStampRows, trimRows, verdictRows, wholeRows, availabilityRows, touchingRows, writeRows, availableRows, fullTickRows, edgeRows}
 use Rattle.laws.specs.Demand1.{GivesNumber, lengthRows, ChangesFromC, OpensFromC, TellsC, Answers, Demand1}
 use Rattle.laws.proofs.Refusals.{refusals}
-use Rattle.laws.proofs.Answering.{full-only, available-told, full-told}
-use Rattle.laws.proofs.Answering.{changing, verdict-only, availability-only, available-only, touching-only, no-part, write-leaves, reading, feeding, finishing, changes-number, tells-number, verdict-told, availability-told, touching-told, writes-number, changes-c, tells-c, length-alone, reads-c, writes-c}
+use Rattle.laws.proofs.Answering.{full-only, available-told, full-told, changing, verdict-only, availability-only, available-only, touching-only, no-part, write-leaves, reading, feeding, finishing, changes-number, tells-number, verdict-told, availability-told, touching-told, writes-number, changes-c, tells-c, length-alone, reads-c, writes-c, edge-only, edge-told}
 
 -- a number, and what is left where it refuses, of an answer that equals another
 moved : {A : Type 0} {left : Type 0} {rows : List (Bool × ℕ)} (f : A → ℕ) (x y : A) → x ≡ y → f y ≡ lowest rows → ((f x ≡ 0 → ⊥) → left) → GivesNumber (f x) rows left
@@ -143,6 +140,14 @@ module _ (ws ts : List ℕ) where
       (tells-number ws 2 (touchingTells v) out rows (touching-told v out ∙ refusals .touching (recordOf ws) ts (record { 0 = a }) (record { 0 = b })))
       (refusing.touching-refused ws ts a b out) x after e f
 
+  edge-c : (out : List ℕ) (x : ℕ) (after : List ℕ) → x ≡ tellsEdge ws ts out .number → after ≡ tellsEdge ws ts out .out → TellsC x ws 2 (edgeRows (recordOf ws) ts) out after
+  unfolding tellsEdge
+  edge-c out x after e f =
+      let rows = edgeRows (recordOf ws) ts in
+      let v = coveredEdge (recordOf ws) ts in
+      tells-c ws 2 rows out (tellsEdge ws ts out) (tells-number ws 2 (edgeTells v) out rows (edge-told v out ∙ refusals .covered-edge (recordOf ws) ts))
+      (refusing.edge-refused ws ts out) x after e f
+
   write-c : (bytes out : List ℕ) (x : ℕ) (after line : List ℕ) → x ≡ writes ws ts bytes out .number → after ≡ writes ws ts bytes out .bytes → line ≡ writes ws ts bytes out .out →
       GivesNumber x (lengthRows ws out 1 (writeRows (recordOf ws) ts (length bytes))) ((after ≡ bytes) × (line ≡ out))
   unfolding writes
@@ -192,6 +197,7 @@ demand-1 =
       touching =
           answered (λ κs (rec, (table, (from, (to, _)))) x e p k.
           p ∙ no-part (touchingWords rec (now table) from to) (now table) (λ z. k (sym (refusals .touching rec (now table) from to) ∙ z)));
+      covered-edge = answered (λ κs (rec, (table, _)) x e p. moved edgeNumber x _ p (refusals .covered-edge rec (now table)) (edge-only x));
       read = answered (λ κs (bytes, (table, _)) x e p. reading (now bytes) (now table) x _ (p .0) (p .1));
       begins = λ κs a. tt;
       feed = answered (λ κs (reader, (table, (piece, _))) x e p. feeding reader (now table) (now piece) x _ (p .0) (p .1));
@@ -225,6 +231,7 @@ demand-1 =
           answered (λ κs (rec, (table, (stamp, (out, _)))) x e p. full-c (now rec) (now table) stamp (now out) x _ (p .0) (p .1));
       c-touching =
           answered (λ κs (rec, (table, (from, (to, (out, _))))) x e p. touching-c (now rec) (now table) from to (now out) x _ (p .0) (p .1));
+      c-covered-edge = answered (λ κs (rec, (table, (out, _))) x e p. edge-c (now rec) (now table) (now out) x _ (p .0) (p .1));
       c-read =
           answered (λ κs (bytes, (rec, (table, (out, _)))) x e p.
           reads-c (now bytes) (now rec) (now table) (now out) x _ _ _ (p .0) (p .1 .0) (p .1 .1 .0) (p .1 .1 .1));

@@ -9,6 +9,7 @@ pub mod Verdicts
 pub mod Offers
 pub mod Files
 pub mod Demand2
+pub mod Edge
 pub mod DeskLines
 pub mod Desk
 pub mod Rows

@@ -38,11 +38,14 @@ use Rattle.answers.specs.Counts.{neededCount, coveredCount, lowestLacking}
 use Rattle.answers.specs.Judgement.{verdictOf, verdictAt, verdictWhole}
 use Rattle.answers.specs.Available.{numbered, keptNumber, availableFrom, availableUpto, availabilityOf, available, numberAvailability, numberAvailable, availabilityIn, availableIn}
 use Rattle.answers.specs.Spans.{touches, beforeFirst, uptoLast, touchedWords, touchingWords}
-use Rattle.answers.specs.Numbers.{verdictNumber, availabilityNumber, availableNumber, touchingNumber}
+use Rattle.answers.specs.declared.CoveredEdge.{CoveredEdge}
+use Rattle.answers.specs.declared.CoveredEdge.the-variants as edge
+use Rattle.answers.specs.Edge.{atOrBefore, edgeOf, coveredEdge}
+use Rattle.answers.specs.Numbers.{verdictNumber, availabilityNumber, availableNumber, touchingNumber, edgeNumber}
+use Rattle.answers.proofs.Edging.{Latest, latest-right}
 use Rattle.file.specs.declared.WriteAnswer.the-variants as written
 use Rattle.file.specs.Writing.{fileFor, writeAnswer, writeNumber}
-use Rattle.laws.specs.Refusals.{lowest, some, notKept, Refusals, verdictRows, wholeRows, availabilityRows, availableRows, touchingRows, writeRows}
-use Rattle.laws.specs.Refusals.{fullTickRows}
+use Rattle.laws.specs.Refusals.{lowest, some, notKept, Refusals, verdictRows, wholeRows, availabilityRows, availableRows, touchingRows, writeRows, fullTickRows, edgeRows}
 use Rattle.laws.proofs.Rows.{over, under, none}
 use Rattle.laws.proofs.Changing.{opening, trim, append, append-stamp}
 
@@ -201,6 +204,21 @@ write-number rec ws room =
     by true false false = refl
     by true false true = refl
 
+covered-edge : (rec : Record) (ws : List ℕ) → edgeNumber (coveredEdge rec ws) ≡ lowest (edgeRows rec ws)
+covered-edge rec ws = by (agrees rec ws)
+  where
+    test : ℕ → Bool
+    test = atOrBefore (rec .head) (rec .next .0)
+
+    not-refused : (x : CoveredEdge) → Latest test largestMillis x → edgeNumber x ≡ 0
+    not-refused (edge.At m) r = refl
+    not-refused edge.Never r = refl
+    not-refused (edge.Refused why) r = absurd r
+
+    by : (a : Bool) → edgeNumber (cond a (edgeOf (rec .head) (rec .next .0)) (edge.Refused refusal.Disagreement)) ≡ lowest ((not a, 2) ∷ [])
+    by false = refl
+    by true = not-refused (edgeOf (rec .head) (rec .next .0)) (latest-right test largestMillis)
+
 pub refusals : Refusals
 refusals =
     record {
@@ -214,5 +232,6 @@ refusals =
       available-at = available-number;
       full-tick = full-number;
       touching = touching-number;
+      covered-edge = covered-edge;
       write = write-number;
     }

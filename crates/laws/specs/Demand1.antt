@@ -1,7 +1,8 @@
 -- Demand 1. Every entry point takes any input, and answers it with the paper's number: the lowest whose condition holds, 0 where none does
 -- (the rows of Refusals, and for a file those of Lines). A refused call returns the record as it came and changes no word and no byte,
 -- with these exceptions. A refused opening answers a zero record. A refused reading answers a zero record and the line, and zeroes the
--- table. The part that a span lookup hands back is empty. A verdict, an availability and a full tick give their number and nothing else. Of each
+-- table. The part that a span lookup hands back is empty. A verdict, an availability, a full tick and a covered edge give their number
+-- and nothing else. Of each
 -- function this is said over the contract that the check itself makes of it (Unique says what its parts are, and has the functions that
 -- never refuse). For C the lengths of record and out are judged first.
 -- Paper: Refusal numbers; What a statement must leave no room for.
@@ -25,8 +26,9 @@ use Rattle.answers.specs.declared.Availability.the-variants.{Refused as Availab
 use Rattle.answers.specs.declared.AvailableAt.the-variants.{Refused as AvailableRefused}
 use Rattle.answers.specs.declared.stamps.FullTick.the-variants.{Refused as FullTickRefused}
 use Rattle.answers.specs.declared.Touching.the-variants.{Refused as TouchingRefused}
-use Rattle.answers.specs.Numbers.{verdictNumber, availabilityNumber, availableNumber, touchingNumber}
+use Rattle.answers.specs.Numbers.{verdictNumber, availabilityNumber, availableNumber, touchingNumber, edgeNumber}
 use Rattle.answers.specs.Stamps.{fullTickNumber}
+use Rattle.answers.specs.declared.CoveredEdge.the-variants.{Refused as EdgeRefused}
 use Rattle.file.specs.declared.Reader.{Reader}
 use Rattle.file.specs.declared.ReadAnswer.{ReadAnswer}
 use Rattle.file.specs.Feeding.{belongs}
@@ -37,8 +39,7 @@ use Rattle.answers.proofs as answers
 use Rattle.file.proofs as file
 use Rattle.report.proofs as report
 use Rattle.flonterri.proofs as c
-use Rattle.laws.specs.Refusals.{lowest, openRows, appendTickRows, appendStampRows, trimRows, verdictRows, wholeRows, availabilityRows, availableRows, touchingRows, writeRows}
-use Rattle.laws.specs.Refusals.{fullTickRows}
+use Rattle.laws.specs.Refusals.{lowest, openRows, appendTickRows, appendStampRows, trimRows, verdictRows, wholeRows, availabilityRows, availableRows, touchingRows, writeRows, fullTickRows, edgeRows}
 use Rattle.laws.specs.Lines.{judgedFile}
 use Rattle.laws.specs.Unique.{AnyInput}
 
@@ -150,6 +151,8 @@ pub record Demand1 : Type 0 where
   -- the part of the table itself gives no number: it is empty where the span lookup refuses
   pub touching : Answers answers.spans.touching.Reads.Asked answers.spans.touching.Reads.Learnt
       (λ (rec, (table, (from, (to, _)))) x _. (lowest (touchingRows rec (now table) from to) ≡ 0 → ⊥) → now x ≡ [])
+  pub covered-edge : Answers answers.edges.covered_edge.Reads.Asked answers.edges.covered_edge.Reads.Learnt
+      (λ (rec, (table, _)) x _. GivesNumber (edgeNumber x) (edgeRows rec (now table)) (Only EdgeRefused x))
   -- reading, at once and piece by piece
   pub read : Answers file.read.Reads.Asked file.read.Reads.Learnt
       (λ (bytes, (table, _)) x (_, (table′, _)). Reads (now bytes) x (now table′) (now table))
@@ -201,6 +204,9 @@ pub record Demand1 : Type 0 where
   pub c-touching : Answers c.flonterri_touching.Reads.Asked c.flonterri_touching.Reads.Learnt
       (λ (rec, (table, (from, (to, (out, _))))) x (_, (_, (_, (_, (out′, _))))).
       TellsC x (now rec) 2 (touchingRows (recordOf (now rec)) (now table) (record { 0 = from }) (record { 0 = to })) (now out) (now out′))
+  pub c-covered-edge : Answers c.flonterri_covered_edge.Reads.Asked c.flonterri_covered_edge.Reads.Learnt
+      (λ (rec, (table, (out, _))) x (_, (_, (out′, _))).
+      TellsC x (now rec) 2 (edgeRows (recordOf (now rec)) (now table)) (now out) (now out′))
   -- C, reading and writing
   pub c-read : Answers c.flonterri_read.Reads.Asked c.flonterri_read.Reads.Learnt
       (λ (bytes, (rec, (table, (out, _)))) x (_, (rec′, (table′, (out′, _)))).

@@ -31,7 +31,8 @@ use Rattle.answers.specs.Judgement.{verdictAt, verdictWhole}
 use Rattle.answers.specs.Available.{availabilityIn, availableIn}
 use Rattle.answers.specs.Stamps.{fullTickIn, fullTickNumber}
 use Rattle.answers.specs.Spans.{touchingWords}
-use Rattle.answers.specs.Numbers.{verdictNumber, availabilityNumber, availableNumber, touchingNumber}
+use Rattle.answers.specs.Edge.{coveredEdge}
+use Rattle.answers.specs.Numbers.{verdictNumber, availabilityNumber, availableNumber, touchingNumber, edgeNumber}
 use Rattle.file.specs.Writing.{fileFor, writeAnswer, writeNumber}
 
 -- the number of the first row whose condition holds, 0 where none does
@@ -116,6 +117,9 @@ fullTickRows rec ws = (not (agrees rec ws), 2) ∷ []
 abbrev pub touchingRows : Record → List ℕ → WideTick → WideTick → List (Bool × ℕ)
 touchingRows rec ws a b = (not (agrees rec ws), 2) ∷ (leb (b .0) (a .0), 14) ∷ []
 
+abbrev pub edgeRows : Record → List ℕ → List (Bool × ℕ)
+edgeRows rec ws = (not (agrees rec ws), 2) ∷ []
+
 abbrev pub writeRows : Record → List ℕ → ℕ → List (Bool × ℕ)
 writeRows rec ws room = (not (agrees rec ws), 2) ∷ (eqb (rec .used) 0, 12) ∷ (ltb room (length (fileFor rec ws)), 15) ∷ []
 
@@ -134,4 +138,5 @@ pub record Refusals : Type 0 where
       availableNumber (availableIn rec ws n c) ≡ lowest (availableRows rec ws n c)
   pub full-tick : (rec : Record) (ws : List ℕ) (stamp : Stamp) → fullTickNumber (fullTickIn rec ws stamp) ≡ lowest (fullTickRows rec ws)
   pub touching : (rec : Record) (ws : List ℕ) (a b : WideTick) → touchingNumber (touchingWords rec ws a b) ≡ lowest (touchingRows rec ws a b)
+  pub covered-edge : (rec : Record) (ws : List ℕ) → edgeNumber (coveredEdge rec ws) ≡ lowest (edgeRows rec ws)
   pub write : (rec : Record) (ws : List ℕ) (room : ℕ) → writeNumber (writeAnswer rec ws room) ≡ lowest (writeRows rec ws room)

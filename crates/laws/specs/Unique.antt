@@ -111,11 +111,13 @@ pub record Entries : Type 0 where
   pub available-at : Entry answers.times.available_at.Reads.Asked answers.times.available_at.Reads.Learnt
   pub full-tick : Entry answers.stamps.full_tick.Reads.Asked answers.stamps.full_tick.Reads.Learnt
   pub touching-words : Entry answers.spans.touching_words.Reads.Asked answers.spans.touching_words.Reads.Learnt
+  pub covered-edge : Entry answers.edges.covered_edge.Reads.Asked answers.edges.covered_edge.Reads.Learnt
   pub verdict-number : Entry answers.Verdict.number.Reads.Asked answers.Verdict.number.Reads.Learnt
   pub availability-number : Entry answers.Availability.number.Reads.Asked answers.Availability.number.Reads.Learnt
   pub available-number : Entry answers.AvailableAt.number.Reads.Asked answers.AvailableAt.number.Reads.Learnt
   pub full-tick-number : Entry answers.stamps.FullTick.number.Reads.Asked answers.stamps.FullTick.number.Reads.Learnt
   pub touching-number : Entry answers.Touching.number.Reads.Asked answers.Touching.number.Reads.Learnt
+  pub edge-number : Entry answers.CoveredEdge.number.Reads.Asked answers.CoveredEdge.number.Reads.Learnt
   -- the part handed back, by its words
   pub touching-any : AnyInput answers.spans.touching.Reads.Asked
   pub touching : OnePart answers.spans.touching.Reads.Learnt
@@ -149,6 +151,7 @@ pub record Entries : Type 0 where
   pub c-available-at : Lending c.flonterri_available_at.Reads.Asked c.flonterri_available_at.Reads.Learnt out-after-two
   pub c-full-tick : Lending c.flonterri_full_tick.Reads.Asked c.flonterri_full_tick.Reads.Learnt out-after-one
   pub c-touching : Lending c.flonterri_touching.Reads.Asked c.flonterri_touching.Reads.Learnt out-after-two
+  pub c-covered-edge : Lending c.flonterri_covered_edge.Reads.Asked c.flonterri_covered_edge.Reads.Learnt out
   pub c-read : Lending c.flonterri_read.Reads.Asked c.flonterri_read.Reads.Learnt record-table-out
   pub c-write : Lending c.flonterri_write.Reads.Asked c.flonterri_write.Reads.Learnt bytes-and-out
   -- keeping

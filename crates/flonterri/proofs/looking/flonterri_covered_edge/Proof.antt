@@ -1,0 +1,39 @@
+-- `flonterri_covered_edge` meets its contract: refused for a length, or what the answer tells.
+use borrow.Author.Needs.{needs}
+use Rattle.answers.specs.Edge.{coveredEdge}
+use Rattle.flonterri.specs.Tells.{edgeTells}
+use Rattle.flonterri.specs.Face.{tellsEdge}
+use Rattle.flonterri.proofs.Lengths.{first-right, second-right}
+use Rattle.flonterri.proofs.Facing.{tells-nothing, tells-by}
+use Rattle.flonterri.proofs.looking.flonterri_covered_edge.Statement.{statement}
+use Rattle.flonterri.proofs.looking.flonterri_covered_edge.Tie as tie
+
+returns : tie.Need-returns
+unfolding tellsEdge
+returns c =
+    let start = c .before .before .before .before .before in
+    tells-nothing (start .args .«record» .now) 2 (start .args .out .now) _ (c .before .wrong-length .ensures) edgeTells _ (c .if1 .taken)
+
+returns-2 : tie.Need-returns-2
+unfolding tellsEdge edgeTells
+returns-2 c =
+    let told = c .before .before in
+    let call = told .before .before in
+    let made = call .before in
+    let test = made .before in
+    let start = test .before .before .before .before .before in
+    let a = start .args in
+    tells-by (a .«record» .now) 2 (a .out .now) _ (test .before .wrong-length .ensures) edgeTells (λ rec. coveredEdge rec (a .table .now)) (test .if1 .left) _ (made .record-of .ensures) _
+    (call .covered-edge .ensures) _ _ (told .tell-edge .ensures .0) (told .tell-edge .ensures .1)
+
+pub flonterri-covered-edge-spec : {M : Type 1} → statement M
+flonterri-covered-edge-spec =
+    tie.close
+    (tie.spec
+    (λ c κs. search needs)
+    returns
+    (λ c κs. search (needs, first-right))
+    (λ c κs. search needs)
+    (λ c κs. search (needs, second-right))
+    (λ c. search needs)
+    returns-2)
