@@ -45,9 +45,10 @@ use Rattle.answers.proofs.Cases.{to-lacking, asked-at}
 use Rattle.answers.proofs.Agreed.{none-reach, first-reach, kept-cover}
 use Rattle.answers.proofs.Completeness.{complete-at}
 use Rattle.answers.proofs.Edging.{Latest, latest-right, right-is, by-clock, by-end}
+use Rattle.flonterri.specs.Words.{headWith}
 use Rattle.laws.specs.Calls.{State}
 use Rattle.laws.specs.Demand2.{MayAsk, atClock}
-use Rattle.laws.specs.ByHand.{headOf, headA, headB, headD, stateOf}
+use Rattle.laws.specs.ByHand.{headA, headB, headD, stateOf}
 use Rattle.laws.specs.Edge.{LatestClock, NotEmpty, SaysLacking, clock, openLate, EdgeRight}
 use Rattle.laws.proofs.ByHand.{by-hand}
 
@@ -272,7 +273,7 @@ abbrev stateD : State
 stateD = stateOf headD 2 0 2 0 1 (0 ∷ 1 ∷ 2 ∷ [])
 
 abbrev stateLate : State
-stateLate = stateOf (headOf 1000 5 0 0 10_000 1) 0 0 0 0 0 (0 ∷ 0 ∷ 0 ∷ [])
+stateLate = stateOf (headWith 1000 5 0 0 10_000 1) 0 0 0 0 0 (0 ∷ 0 ∷ 0 ∷ [])
 
 record Worked : Type 0 where
   a : agrees (stateA .rec) (stateA .words) ≡ true
@@ -282,7 +283,7 @@ record Worked : Type 0 where
   d-reaches : reachesEnd headD 2 ≡ true
   late : agrees (stateLate .rec) (stateLate .words) ≡ true
   late-state : openLate ≡ stateLate
-  late-zero : atOrBefore (headOf 1000 5 0 0 10_000 1) 0 0 ≡ false
+  late-zero : atOrBefore (headWith 1000 5 0 0 10_000 1) 0 0 ≡ false
 
 worked : Worked
 unfolding agrees runsOf wordsOf repeated referencesOf runsShaped zeros lastEnd every place moment periodEnd lowEdge highEdge changedBy wordsBy openOutcome

@@ -25,9 +25,10 @@ use Rattle.answers.specs.declared.Verdict.the-variants.{Complete, Lacking}
 use Rattle.answers.specs.declared.CoveredEdge.the-variants.{At, Never, Refused}
 use Rattle.answers.specs.Judgement.{verdictAt}
 use Rattle.answers.specs.Edge.{atOrBefore, coveredEdge}
+use Rattle.flonterri.specs.Words.{headWith}
 use Rattle.laws.specs.Calls.{State, opening}
 use Rattle.laws.specs.Demand2.{MayAsk, atClock}
-use Rattle.laws.specs.ByHand.{tick, headOf, full, bothA, fiveB, twoD}
+use Rattle.laws.specs.ByHand.{tick, full, bothA, fiveB, twoD}
 
 -- clock m is the latest, within the limit, at which the upper edge is at or before the next tick's place
 pub record LatestClock (rec : Record) (m : ℕ) : Type 0 where
@@ -47,7 +48,7 @@ clock n = record { 0 = n }
 
 -- B's head with an offset of 5, opened at tick 0: the next tick stands before the period start
 abbrev pub openLate : State
-openLate = opening (headOf 1000 5 0 0 10_000 1) (tick 0) (full 3)
+openLate = opening (headWith 1000 5 0 0 10_000 1) (tick 0) (full 3)
 
 pub record EdgeRight : Type 0 where
   -- each answer exactly when
