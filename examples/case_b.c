@@ -48,6 +48,21 @@ static void verdict(uint64_t clock)
     }
 }
 
+/* Up to which clock the window ends in what was appended. */
+static void edge(void)
+{
+    struct flonterri_edge_answer answer;
+    uint32_t refusal = flonterri_timeline_covered_edge(&timeline, &answer);
+
+    if (refusal != FLONTERRI_OK) {
+        printf("covered edge: refused %" PRIu32 "\n", refusal);
+    } else if (answer.kind == FLONTERRI_NO_EDGE) {
+        printf("covered edge: none\n");
+    } else {
+        printf("covered edge: %" PRIu64 "\n", answer.clock);
+    }
+}
+
 /* A call of flonterri.h itself, which is given every length and answers in words. */
 static void availability(uint64_t number)
 {
@@ -98,6 +113,7 @@ int main(void)
     verdict(0);
     verdict(14000);
     verdict(20001);
+    edge();
     availability(3);
     trim(13999);
     trim(14000);
