@@ -5,7 +5,8 @@ use std::ops::Range;
 use crate::answers::{Availability, References, Runs, Verdict};
 use crate::refusal::{OpenError, ReadError, Refusal, RefusedFile};
 use crate::units::{narrow, Millis, Number, Span, Stamp, Tick, Timescale};
-use crate::words::{self, touching_word, word, RECORD_WORDS, RUN_WORDS};
+use crate::words::{self, edge_kind, edge_word, full_tick_kind, full_tick_word};
+use crate::words::{touching_word, word, RECORD_WORDS, RUN_WORDS};
 
 /// Bytes of a written head line and end line, with their line feeds.
 const HEAD_AND_END_BYTES: usize = 83 + 11;
@@ -310,6 +311,100 @@ impl Timeline {
         Refusal::judge(answer).map(|()| Availability::of_words(out))
     }
 
+    /// Whether the reference of a number is available at a clock. Refusals
+    /// [`ClockLimit`](Refusal::ClockLimit), [`NotKept`](Refusal::NotKept).
+    ///
+    /// ```
+    /// # use flonterri::{Head, Millis, Number, Span, Tick, Timeline, Timescale};
+    /// # fn main() -> Result<(), flonterri::OpenError> {
+    /// let head = Head { depth: Millis(10_000), ..Head::new(Timescale(1000)) };
+    /// let mut timeline = Timeline::open(head, Tick(0), 10)?;
+    /// timeline.append(Tick(0), Span(4000), 5)?;
+    /// // Number 2 ends at 12 s, and is available for its own 4 s and the depth from there on.
+    /// assert!(!timeline.available_at(Number(2), Millis(11_999))?);
+    /// assert!(timeline.available_at(Number(2), Millis(12_000))?);
+    /// assert!(!timeline.available_at(Number(2), Millis(26_000))?);
+    /// # Ok(())
+    /// # }
+    /// ```
+    pub fn available_at(&self, number: Number, clock: Millis) -> Result<bool, Refusal> {
+        let mut out = [0; words::AVAILABLE_WORDS];
+        let number = number.0.into();
+        let answer = words::available_at(&self.record, &self.table, number, clock.0, &mut out);
+        Refusal::judge(answer).map(|()| out == [1])
+    }
+
+    /// The covered edge: the greatest clock at which the window's upper edge is at or before the
+    /// next tick. None where clock 0 already passes it; [`Millis::LARGEST`] where the next tick
+    /// reaches a known period end. At every later clock whose window is not empty the verdict is
+    /// never complete.
+    ///
+    /// It knows nothing of the window's lower edge, so the verdict at it may be lacking. It may lie
+    /// before the greatest clock, where a verdict is refused. And it stands still where a packager
+    /// has stopped: so ask at the earlier of it and now, and look how far behind now it lies.
+    ///
+    /// ```
+    /// # use flonterri::{Head, Millis, Span, Tick, Timeline, Timescale};
+    /// # fn main() -> Result<(), flonterri::OpenError> {
+    /// let head = Head { depth: Millis(10_000), ..Head::new(Timescale(1000)) };
+    /// let mut timeline = Timeline::open(head, Tick(0), 10)?;
+    /// timeline.append(Tick(0), Span(4000), 5)?;
+    /// let edge = timeline.covered_edge().expect("a clock");
+    /// assert_eq!(edge, Millis(20_000));
+    ///
+    /// let now = Millis(24_600);
+    /// let clock = edge.min(now).max(timeline.greatest_clock());
+    /// timeline.trim(clock)?;
+    /// assert!(timeline.verdict(clock)?.is_complete());
+    /// // A segment of 4 s comes at most 700 ms after its end.
+    /// assert!(now.0 - clock.0 <= 4_700, "the packager has stopped");
+    /// # Ok(())
+    /// # }
+    /// ```
+    pub fn covered_edge(&self) -> Option<Millis> {
+        let mut out = [0; words::EDGE_WORDS];
+        // Never refused, since a timeline agrees; it would leave the zeros, which are no clock.
+        words::covered_edge(&self.record, &self.table, &mut out);
+        (out[edge_word::KIND] == edge_kind::AT).then(|| Millis(out[edge_word::CLOCK]))
+    }
+
+    /// The full tick of a stamp: the one within half a circle of the next tick that has these low 32
+    /// bits. A gap lies after the next tick, an overlap before it, and a stamp exactly 2^31 away
+    /// lies before it. None where that would be below 0 or over [`Tick::LARGEST`].
+    ///
+    /// So to go on after a gap: open a new timeline at the full tick, with the next number, and trim
+    /// it to the old clock.
+    ///
+    /// ```
+    /// # use flonterri::{Head, Millis, Number, Refusal, Span, Stamp, Tick, Timeline, Timescale};
+    /// # fn main() -> Result<(), flonterri::OpenError> {
+    /// let head = Head { depth: Millis(10_000), ..Head::new(Timescale(90_000)) };
+    /// let mut timeline = Timeline::open(head, Tick(4_294_800_000), 10)?;
+    /// timeline.append(Tick(4_294_800_000), Span(180_000), 1)?;
+    /// timeline.trim(Millis(47_722_000))?;
+    ///
+    /// // The counter has gone round, and a segment of two seconds is missing.
+    /// let stamp = Stamp(192_704);
+    /// let refused = timeline.append_stamp(stamp, Span(180_000), 1);
+    /// assert_eq!(refused, Err(Refusal::Gap));
+    ///
+    /// let start = timeline.full_tick(stamp).expect("a tick within its limit");
+    /// assert_eq!(start, Tick(4_295_160_000));
+    /// let head = Head { first_number: timeline.next_number(), ..timeline.head() };
+    /// let mut after = Timeline::open(head, start, timeline.capacity())?;
+    /// after.trim(timeline.greatest_clock())?;
+    /// after.append(start, Span(180_000), 1)?;
+    /// assert_eq!(after.first_kept_number(), Number(1));
+    /// # Ok(())
+    /// # }
+    /// ```
+    pub fn full_tick(&self, stamp: Stamp) -> Option<Tick> {
+        let mut out = [0; words::FULL_TICK_WORDS];
+        // Never refused, as above; the zeros are no tick.
+        words::full_tick(&self.record, &self.table, stamp.0, &mut out);
+        (out[full_tick_word::KIND] == full_tick_kind::AT).then(|| Tick(out[full_tick_word::TICK]))
+    }
+
     /// The runs that touch the ticks of a range, its end excluded, read from the table without a
     /// copy. Refusal [`EmptySpan`](Refusal::EmptySpan).
     ///
@@ -529,6 +624,23 @@ impl Timeline {
     /// ```
     pub fn first_kept_number(&self) -> Number {
         let number = self.record[word::FIRST_NUMBER].saturating_add(self.dropped());
+        Number(narrow(number, u32::MAX))
+    }
+
+    /// The number of the next reference: first number plus accepted.
+    ///
+    /// ```
+    /// # use flonterri::{Head, Number, Span, Tick, Timeline, Timescale};
+    /// # fn main() -> Result<(), flonterri::OpenError> {
+    /// let head = Head { first_number: Number(1), ..Head::new(Timescale(1000)) };
+    /// let mut timeline = Timeline::open(head, Tick(0), 10)?;
+    /// timeline.append(Tick(0), Span(4000), 5)?;
+    /// assert_eq!(timeline.next_number(), Number(6));
+    /// # Ok(())
+    /// # }
+    /// ```
+    pub fn next_number(&self) -> Number {
+        let number = self.record[word::FIRST_NUMBER].saturating_add(self.accepted());
         Number(narrow(number, u32::MAX))
     }
 

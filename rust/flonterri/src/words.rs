@@ -28,6 +28,15 @@ pub const AVAILABILITY_WORDS: usize = 3;
 /// Words of the `out` of [`touching`].
 pub const TOUCHING_WORDS: usize = 2;
 
+/// Words of the `out` of [`available_at`]: 1 where it is available, else 0.
+pub const AVAILABLE_WORDS: usize = 1;
+
+/// Words of the `out` of [`covered_edge`].
+pub const EDGE_WORDS: usize = 2;
+
+/// Words of the `out` of [`full_tick`].
+pub const FULL_TICK_WORDS: usize = 2;
+
 /// Words of the `out` of [`read`]: the refused line.
 pub const READ_WORDS: usize = 1;
 
@@ -120,6 +129,38 @@ pub mod touching_word {
     pub const TO: usize = 1;
 }
 
+/// Where each word of a covered edge stands.
+pub mod edge_word {
+    /// One of [`edge_kind`](super::edge_kind).
+    pub const KIND: usize = 0;
+    /// The clock, in milliseconds; 0 where there is none.
+    pub const CLOCK: usize = 1;
+}
+
+/// The kinds of a covered edge.
+pub mod edge_kind {
+    /// The window's upper edge lies past the next tick at clock 0 already.
+    pub const NEVER: u64 = 0;
+    /// There is a clock.
+    pub const AT: u64 = 1;
+}
+
+/// Where each word of a full tick stands.
+pub mod full_tick_word {
+    /// One of [`full_tick_kind`](super::full_tick_kind).
+    pub const KIND: usize = 0;
+    /// The tick; 0 where there is none.
+    pub const TICK: usize = 1;
+}
+
+/// The kinds of a full tick.
+pub mod full_tick_kind {
+    /// The tick would lie below 0 or over its limit.
+    pub const NOWHERE: u64 = 0;
+    /// There is a tick.
+    pub const AT: u64 = 1;
+}
+
 /// The functions of the archive. A slice passes as its pointer and its length.
 mod archive {
     extern "C" {
@@ -194,6 +235,33 @@ mod archive {
             table_words: usize,
             a: u64,
             b: u64,
+            out: *mut u64,
+            out_words: usize,
+        ) -> u32;
+        pub fn flonterri_covered_edge(
+            record: *const u64,
+            record_words: usize,
+            table: *const u64,
+            table_words: usize,
+            out: *mut u64,
+            out_words: usize,
+        ) -> u32;
+        pub fn flonterri_available_at(
+            record: *const u64,
+            record_words: usize,
+            table: *const u64,
+            table_words: usize,
+            number: u64,
+            clock: u64,
+            out: *mut u64,
+            out_words: usize,
+        ) -> u32;
+        pub fn flonterri_full_tick(
+            record: *const u64,
+            record_words: usize,
+            table: *const u64,
+            table_words: usize,
+            stamp: u32,
             out: *mut u64,
             out_words: usize,
         ) -> u32;
@@ -489,6 +557,105 @@ pub fn touching(record: &[u64], table: &[u64], a: u64, b: u64, out: &mut [u64]) 
             table.len(),
             a,
             b,
+            out.as_mut_ptr(),
+            out.len(),
+        )
+    }
+}
+
+/// The covered edge: the greatest clock within its limit at which the window's upper edge is at or
+/// before the next tick. `out` is [`EDGE_WORDS`] words, in the order that [`edge_word`] tells.
+///
+/// Refusal 2, and 15 for the length of `out`; each leaves `out` as it came.
+///
+/// ```
+/// use flonterri::words::{self, RECORD_WORDS};
+///
+/// let (mut record, mut table) = ([0; RECORD_WORDS], [0; 30]);
+/// assert_eq!(words::open(&mut record, &mut table, 1000, 0, 0, 0, 10_000, 1, 0), 0);
+/// assert_eq!(words::append(&mut record, &mut table, 0, 4000, 5), 0);
+/// let mut out = [0; words::EDGE_WORDS];
+/// assert_eq!(words::covered_edge(&record, &table, &mut out), 0);
+/// assert_eq!(out, [words::edge_kind::AT, 20_000]);
+/// ```
+pub fn covered_edge(record: &[u64], table: &[u64], out: &mut [u64]) -> u32 {
+    // SAFETY: as for `verdict`: two slices only read, one unique, no pointer kept.
+    unsafe {
+        archive::flonterri_covered_edge(
+            record.as_ptr(),
+            record.len(),
+            table.as_ptr(),
+            table.len(),
+            out.as_mut_ptr(),
+            out.len(),
+        )
+    }
+}
+
+/// Whether the reference of a number is available at a clock. `out` is 1 word: 1 where it is, else 0.
+///
+/// Refusals 2, 10, 13, in this order, and 15 for the length of `out`; each leaves `out` as it came. A
+/// number over 2^32 - 1 is 13.
+///
+/// ```
+/// use flonterri::words::{self, RECORD_WORDS};
+///
+/// let (mut record, mut table) = ([0; RECORD_WORDS], [0; 30]);
+/// assert_eq!(words::open(&mut record, &mut table, 1000, 0, 0, 0, 10_000, 1, 0), 0);
+/// assert_eq!(words::append(&mut record, &mut table, 0, 4000, 5), 0);
+/// let mut out = [7; words::AVAILABLE_WORDS];
+/// assert_eq!(words::available_at(&record, &table, 3, 11_999, &mut out), 0);
+/// assert_eq!(out, [0]);
+/// assert_eq!(words::available_at(&record, &table, 3, 12_000, &mut out), 0);
+/// assert_eq!(out, [1]);
+/// ```
+pub fn available_at(
+    record: &[u64],
+    table: &[u64],
+    number: u64,
+    clock: u64,
+    out: &mut [u64],
+) -> u32 {
+    // SAFETY: as for `verdict`: two slices only read, one unique, no pointer kept.
+    unsafe {
+        archive::flonterri_available_at(
+            record.as_ptr(),
+            record.len(),
+            table.as_ptr(),
+            table.len(),
+            number,
+            clock,
+            out.as_mut_ptr(),
+            out.len(),
+        )
+    }
+}
+
+/// The full tick of a stamp: the one within half a circle of the next tick that has these low 32
+/// bits; one exactly 2^31 away lies behind. `out` is [`FULL_TICK_WORDS`] words, in the order that
+/// [`full_tick_word`] tells.
+///
+/// Refusal 2, and 15 for the length of `out`; each leaves `out` as it came.
+///
+/// ```
+/// use flonterri::words::{self, RECORD_WORDS};
+///
+/// let (mut record, mut table) = ([0; RECORD_WORDS], [0; 30]);
+/// let first_tick = 4_294_970_000;
+/// assert_eq!(words::open(&mut record, &mut table, 1000, 0, 0, 0, 0, 1, first_tick), 0);
+/// let mut out = [0; words::FULL_TICK_WORDS];
+/// assert_eq!(words::full_tick(&record, &table, 2705, &mut out), 0);
+/// assert_eq!(out, [words::full_tick_kind::AT, first_tick + 1]);
+/// ```
+pub fn full_tick(record: &[u64], table: &[u64], stamp: u32, out: &mut [u64]) -> u32 {
+    // SAFETY: as for `verdict`: two slices only read, one unique, no pointer kept.
+    unsafe {
+        archive::flonterri_full_tick(
+            record.as_ptr(),
+            record.len(),
+            table.as_ptr(),
+            table.len(),
+            stamp,
             out.as_mut_ptr(),
             out.len(),
         )

@@ -49,6 +49,130 @@ fn asked_as_late_as_segments_come_all_is_complete() -> Outcome {
     Ok(())
 }
 
+/// Up to the covered edge all is complete, and a millisecond later it is not.
+#[test]
+fn the_covered_edge() -> Outcome {
+    let mut timeline = Timeline::open(ten_seconds(), Tick(0), 10)?;
+    assert_eq!(timeline.covered_edge(), Some(Millis(0)));
+    timeline.append(Tick(0), Span(4000), 5)?;
+    let edge = timeline.covered_edge().expect("a clock");
+    assert!(timeline.verdict(edge)?.is_complete());
+    assert!(!timeline.verdict(Millis(edge.0 + 1))?.is_complete());
+    timeline.trim(Millis(25_000))?;
+    assert_eq!(timeline.covered_edge(), Some(edge));
+    assert_eq!(timeline.verdict(edge), Err(Refusal::EarlierClock));
+
+    let offset = Head {
+        offset: Tick(5),
+        ..ten_seconds()
+    };
+    assert_eq!(Timeline::open(offset, Tick(0), 10)?.covered_edge(), None);
+    Ok(())
+}
+
+/// The edge of a period that is covered to its end is the last clock of all: now is the earlier one.
+#[test]
+fn the_covered_edge_of_a_period_that_has_ended() -> Outcome {
+    let head = Head {
+        duration: Millis(20_000),
+        ..ten_seconds()
+    };
+    let mut timeline = Timeline::open(head, Tick(0), 10)?;
+    timeline.append(Tick(0), Span(4000), 5)?;
+    let edge = timeline.covered_edge().expect("a clock");
+    assert_eq!(edge, Millis::LARGEST);
+    assert_eq!(timeline.verdict(edge)?, Verdict::NothingNeeded);
+    assert!(timeline.verdict(edge.min(Millis(24_600)))?.is_complete());
+    Ok(())
+}
+
+#[test]
+fn available_from_its_start_up_to_its_end() -> Outcome {
+    let mut timeline = Timeline::open(ten_seconds(), Tick(0), 10)?;
+    timeline.append(Tick(0), Span(4000), 5)?;
+    let three = Number(3);
+    for (clock, available) in [
+        (0, false),
+        (11_999, false),
+        (12_000, true),
+        (25_999, true),
+        (26_000, false),
+    ] {
+        let answer = timeline.available_at(three, Millis(clock))?;
+        assert_eq!(answer, available);
+    }
+    let late = Millis(Millis::LARGEST.0 + 1);
+    let refused = |number, clock| timeline.available_at(Number(number), clock);
+    assert_eq!(refused(3, late), Err(Refusal::ClockLimit));
+    assert_eq!(refused(6, late), Err(Refusal::ClockLimit));
+    assert_eq!(refused(6, Millis(0)), Err(Refusal::NotKept));
+    Ok(())
+}
+
+/// The paper's case C: where each stamp lies, and a tick that would be below 0 or over its limit.
+#[test]
+fn full_ticks() -> Outcome {
+    let next = 4_294_970_000;
+    let at = |first, stamp| -> Result<Option<u64>, OpenError> {
+        let timeline = Timeline::open(Head::new(Timescale(1000)), Tick(first), 10)?;
+        Ok(timeline.full_tick(Stamp(stamp)).map(|tick| tick.0))
+    };
+    assert_eq!(at(next, 2704)?, Some(next));
+    assert_eq!(at(next, 2705)?, Some(next + 1));
+    assert_eq!(at(next, 2703)?, Some(next - 1));
+    assert_eq!(at(next, 2_147_486_351)?, Some(next + (1 << 31) - 1));
+    assert_eq!(at(next, 2_147_486_352)?, Some(next - (1 << 31)));
+    assert_eq!(at(0, u32::MAX)?, None);
+    assert_eq!(at(0, 1 << 31)?, None);
+    assert_eq!(at(1, 0)?, Some(0));
+    assert_eq!(at(Tick::LARGEST.0, 0)?, None);
+    assert_eq!(at(Tick::LARGEST.0, u32::MAX)?, Some(Tick::LARGEST.0));
+    Ok(())
+}
+
+/// On after a gap: lacking as long as the window reaches into the gap, complete once it does not.
+#[test]
+fn on_after_a_gap() -> Outcome {
+    let mut timeline = Timeline::open(ten_seconds(), Tick(0), 10)?;
+    timeline.append(Tick(0), Span(4000), 5)?;
+    timeline.trim(Millis(20_000))?;
+    let stamp = Stamp(24_000);
+    let refused = timeline.append_stamp(stamp, Span(4000), 3);
+    assert_eq!(refused, Err(Refusal::Gap));
+
+    let start = timeline.full_tick(stamp).expect("a tick");
+    let head = Head {
+        first_number: timeline.next_number(),
+        ..timeline.head()
+    };
+    let mut after = Timeline::open(head, start, timeline.capacity())?;
+    after.trim(timeline.greatest_clock())?;
+    after.append(start, Span(4000), 3)?;
+    assert_eq!(after.first_kept_number(), Number(6));
+    assert_eq!(after.verdict(Millis(19_999)), Err(Refusal::EarlierClock));
+    let lacking = after.verdict(Millis(33_999))?;
+    assert_eq!(lacking.to_string(), "lacking 23999 9999/10000 99%");
+    assert!(after.verdict(Millis(34_000))?.is_complete());
+    Ok(())
+}
+
+/// What the three calls leave where they are refused, and the lengths that they take.
+#[test]
+fn words_of_edge_full_tick_and_available() {
+    let (mut record, mut table) = ([0; RECORD_WORDS], [0; 3]);
+    let mut out = [7; 3];
+    assert_eq!(words::covered_edge(&record, &table, &mut out[..2]), 2);
+    assert_eq!(words::full_tick(&record, &table, 0, &mut out[..2]), 2);
+    assert_eq!(words::available_at(&record, &table, 0, 0, &mut out[..1]), 2);
+    words::open(&mut record, &mut table, 1000, 0, 0, 0, 0, 0, 0);
+    assert_eq!(words::covered_edge(&record, &table, &mut out), 15);
+    assert_eq!(words::full_tick(&record, &table, 0, &mut out), 15);
+    assert_eq!(words::available_at(&record, &table, 0, 0, &mut out), 15);
+    let number = 1 << 32;
+    let answer = words::available_at(&record, &table, number, 0, &mut out[..1]);
+    assert_eq!((answer, out), (13, [7; 3]));
+}
+
 /// A clock that steps back: a trim takes it and changes nothing, a verdict refuses it, and the later of
 /// it and the greatest clock is answered.
 #[test]
