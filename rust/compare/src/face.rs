@@ -19,6 +19,12 @@ pub type Verdict = fn(&[u64], &[u64], u64, &mut [u64]) -> u32;
 pub type VerdictWhole = fn(&[u64], &[u64], &mut [u64]) -> u32;
 /// The availability of a number.
 pub type Availability = fn(&[u64], &[u64], u64, &mut [i64]) -> u32;
+/// Whether a number is available at a clock.
+pub type AvailableAt = fn(&[u64], &[u64], u64, u64, &mut [u64]) -> u32;
+/// The covered edge.
+pub type CoveredEdge = fn(&[u64], &[u64], &mut [u64]) -> u32;
+/// The full tick of a stamp.
+pub type FullTick = fn(&[u64], &[u64], u32, &mut [u64]) -> u32;
 /// The runs that touch a span.
 pub type Touching = fn(&[u64], &[u64], u64, u64, &mut [u64]) -> u32;
 /// A reading.
@@ -45,6 +51,12 @@ pub struct Face {
     pub verdict_whole: VerdictWhole,
     /// The availability of a number.
     pub availability: Availability,
+    /// Whether a number is available at a clock.
+    pub available_at: AvailableAt,
+    /// The covered edge.
+    pub covered_edge: CoveredEdge,
+    /// The full tick of a stamp.
+    pub full_tick: FullTick,
     /// The runs that touch a span.
     pub touching: Touching,
     /// Reading a file.
@@ -63,6 +75,9 @@ pub const ARCHIVE: Face = Face {
     verdict: words::verdict,
     verdict_whole: words::verdict_whole,
     availability: words::availability,
+    available_at: words::available_at,
+    covered_edge: words::covered_edge,
+    full_tick: words::full_tick,
     touching: words::touching,
     read: words::read,
     write: words::write,
@@ -78,6 +93,9 @@ pub const PLAIN: Face = Face {
     verdict: plain_face::verdict,
     verdict_whole: plain_face::verdict_whole,
     availability: plain_face::availability,
+    available_at: plain_face::available_at,
+    covered_edge: plain_face::covered_edge,
+    full_tick: plain_face::full_tick,
     touching: plain_face::touching,
     read: plain_face::read,
     write: plain_face::write,

@@ -12,7 +12,7 @@
 //! - in the program, 11, since reading leaves the greatest clock at 0, and whatever a file cannot
 //!   have.
 
-use flonterri::words::RUN_WORDS;
+use flonterri::words::{word, RUN_WORDS};
 
 use crate::limits;
 use crate::sequence::Made;
@@ -22,7 +22,7 @@ use crate::tally::Tally;
 use crate::text::{clock_line, s_fields, ALL_ONES};
 
 /// The numbers that each call can answer.
-const NUMBERS: [(&str, &[&str]); 10] = [
+const NUMBERS: [(&str, &[&str]); 13] = [
     ("open", &["0", "1", "2"]),
     ("append", &["0", "2", "3", "4", "5", "6", "7", "8", "9"]),
     (
@@ -33,6 +33,9 @@ const NUMBERS: [(&str, &[&str]); 10] = [
     ("verdict", &["0", "2", "10", "11", "15"]),
     ("verdict_whole", &["0", "2", "15", "19"]),
     ("availability", &["0", "2", "13", "15"]),
+    ("available_at", &["0", "2", "10", "13", "15"]),
+    ("covered_edge", &["0", "2", "15"]),
+    ("full_tick", &["0", "2", "15"]),
     ("touching", &["0", "2", "14", "15"]),
     (
         "read",
@@ -88,7 +91,7 @@ const TAKEN: &[&str] = &[
 ];
 
 /// The ways in which calls can go besides their numbers.
-const WAYS: [(&str, &[&str]); 13] = [
+const WAYS: [(&str, &[&str]); 16] = [
     ("lengths", &["another record", "another out"]),
     ("damaged words", &["agree", "disagree"]),
     ("append taken", TAKEN),
@@ -108,6 +111,9 @@ const WAYS: [(&str, &[&str]); 13] = [
     ("verdict_whole kind", &["complete", "lacking"]),
     ("availability kind", &["never ends", "ends"]),
     ("availability number", &["within 32 bits", "over 32 bits"]),
+    ("available_at answer", &["yes", "no"]),
+    ("covered_edge kind", &["none", "a clock", "the limit"]),
+    ("full_tick kind", &["none", "joins", "a gap", "an overlap"]),
     (
         "touching part",
         &["no run", "one of several runs", "some runs", "all runs"],
@@ -203,6 +209,15 @@ fn meet_accepted(tally: &mut Tally, made: &Made) {
             let kind = if out[0] == 0 { "never ends" } else { "ends" };
             tally.meet("availability kind", kind);
         }
+        Call::AvailableAt { .. } => {
+            let available = if out[0] == 1 { "yes" } else { "no" };
+            tally.meet("available_at answer", available);
+        }
+        Call::CoveredEdge => tally.meet("covered_edge kind", edge_kind(out)),
+        Call::FullTick { .. } => {
+            let next = made.answer.record[word::NEXT_TICK];
+            tally.meet("full_tick kind", full_tick_kind(out, next));
+        }
         Call::Touching { .. } => tally.meet("touching part", part(made, out)),
         Call::Read { bytes } => meet_read(tally, &after(made), bytes),
         Call::Write { room } => {
@@ -218,6 +233,23 @@ fn meet_accepted(tally: &mut Tally, made: &Made) {
             tally.meet("write accepted", left);
         }
         Call::Open(_) => {}
+    }
+}
+
+fn edge_kind(out: &[u64]) -> &'static str {
+    match out {
+        [0, _] => "none",
+        [_, clock] if *clock == limits::MILLIS => "the limit",
+        _ => "a clock",
+    }
+}
+
+fn full_tick_kind(out: &[u64], next: u64) -> &'static str {
+    match out {
+        [0, _] => "none",
+        [_, tick] if *tick == next => "joins",
+        [_, tick] if *tick > next => "a gap",
+        _ => "an overlap",
     }
 }
 

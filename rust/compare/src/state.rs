@@ -159,6 +159,23 @@ impl State {
         millis.clamp(0, i128::from(u64::MAX)) as u64
     }
 
+    /// About the milliseconds from which and up to which the reference of a number is available,
+    /// where it is kept.
+    pub fn availability_of(&self, number: u64) -> Option<(u64, u64)> {
+        let mut behind = number.checked_sub(self.first_kept_number())?;
+        for run in &self.runs {
+            if behind < run.count {
+                let ended = run.duration.saturating_mul(behind + 1);
+                let end = run.start.saturating_add(ended);
+                let from = self.clock_that_passes(end).saturating_sub(self.depth);
+                let to = self.clock_that_passes(end.saturating_add(run.duration));
+                return Some((from, to));
+            }
+            behind -= run.count;
+        }
+        None
+    }
+
     /// How many references of this duration from the next tick on start before the period end;
     /// none where the end is unknown.
     pub fn count_to_period_end(&self, duration: u32) -> Option<u64> {

@@ -30,6 +30,14 @@ pub enum Call {
     Availability {
         number: u64,
     },
+    AvailableAt {
+        number: u64,
+        clock: u64,
+    },
+    CoveredEdge,
+    FullTick {
+        stamp: u32,
+    },
     Touching {
         a: u64,
         b: u64,
@@ -53,6 +61,9 @@ impl Call {
             Call::Verdict { .. } => "verdict",
             Call::VerdictWhole => "verdict_whole",
             Call::Availability { .. } => "availability",
+            Call::AvailableAt { .. } => "available_at",
+            Call::CoveredEdge => "covered_edge",
+            Call::FullTick { .. } => "full_tick",
             Call::Touching { .. } => "touching",
             Call::Read { .. } => "read",
             Call::Write { .. } => "write",
@@ -64,6 +75,9 @@ impl Call {
         match self {
             Call::Verdict { .. } | Call::VerdictWhole => words::VERDICT_WORDS,
             Call::Availability { .. } => words::AVAILABILITY_WORDS,
+            Call::AvailableAt { .. } => words::AVAILABLE_WORDS,
+            Call::CoveredEdge => words::EDGE_WORDS,
+            Call::FullTick { .. } => words::FULL_TICK_WORDS,
             Call::Touching { .. } => words::TOUCHING_WORDS,
             Call::Read { .. } => words::READ_WORDS,
             Call::Write { .. } => words::WRITE_WORDS,
@@ -231,6 +245,11 @@ impl Answer {
                 *out = signed.iter().map(|word| *word as u64).collect();
                 answer
             }
+            Call::AvailableAt { number, clock } => {
+                (face.available_at)(record, table, *number, *clock, out)
+            }
+            Call::CoveredEdge => (face.covered_edge)(record, table, out),
+            Call::FullTick { stamp } => (face.full_tick)(record, table, *stamp, out),
             Call::Touching { a, b } => (face.touching)(record, table, *a, *b, out),
             Call::Read { bytes } => (face.read)(bytes, record, table, out),
             Call::Write { .. } => (face.write)(record, table, &mut self.bytes, out),

@@ -14,6 +14,7 @@ use crate::file;
 use crate::record::{capacity, decode, encode, RECORD_WORDS, RUN_WORDS};
 use crate::refusal::Refusal;
 use crate::timeline::Timeline;
+use crate::units::{Millis, Tick};
 use crate::verdict::Verdict;
 use crate::window::HeadFields;
 
@@ -171,6 +172,42 @@ pub fn availability(record: &[u64], table: &[u64], number: u64, out: &mut [i64])
         let number = u32::try_from(number).map_err(|_| Refusal::NumberNotKept)?;
         timeline.availability(number).map(availability_words)
     })
+}
+
+/// Whether the reference of a number, which may be any, is available at a clock. Refusals 2, 10, 13.
+/// `out` is 1 word: 1 where it is, else 0.
+pub fn available_at(
+    record: &[u64],
+    table: &[u64],
+    number: u64,
+    clock: u64,
+    out: &mut [u64],
+) -> u32 {
+    ask(record, table, out, |timeline| {
+        Millis::new(clock).ok_or(Refusal::ClockOverLimit)?;
+        let number = u32::try_from(number).map_err(|_| Refusal::NumberNotKept)?;
+        let available = timeline.available_at(number, clock)?;
+        Ok([u64::from(available)])
+    })
+}
+
+/// The covered edge. Refusal 2. `out` is 2 words: kind (0 none, 1 a clock), clock.
+pub fn covered_edge(record: &[u64], table: &[u64], out: &mut [u64]) -> u32 {
+    ask(record, table, out, |timeline| {
+        Ok(there_or_none(timeline.covered_edge().map(Millis::get)))
+    })
+}
+
+/// The full tick of a stamp. Refusal 2. `out` is 2 words: kind (0 none, 1 a tick), tick.
+pub fn full_tick(record: &[u64], table: &[u64], stamp: u32, out: &mut [u64]) -> u32 {
+    ask(record, table, out, |timeline| {
+        Ok(there_or_none(timeline.full_tick(stamp).map(Tick::get)))
+    })
+}
+
+/// Kind (0 none, 1 there is one), and what there is, 0 for none.
+fn there_or_none(found: Option<u64>) -> [u64; 2] {
+    found.map_or([0, 0], |word| [1, word])
 }
 
 /// The runs that touch a span. Refusals 2, 14. `out` is 2 words: the first word and one past the

@@ -14,6 +14,7 @@
 //! | [`record`] | "Record and table" (words and their agreement) |
 //! | [`verdict`] | "Verdict and availability" (verdicts, percent) |
 //! | [`availability`] | "Verdict and availability" (availability) |
+//! | [`edge`] | "Verdict and availability" (the covered edge) |
 //! | [`touching`] | "Verdict and availability" (the runs that touch a span) |
 //! | [`mod@file`] | "The file" |
 //! | [`desk`] | "The file" (the program) |
@@ -24,6 +25,7 @@
 
 pub mod availability;
 pub mod desk;
+pub mod edge;
 pub mod face;
 pub mod file;
 pub mod record;

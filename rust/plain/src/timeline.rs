@@ -106,6 +106,17 @@ impl Timeline {
         self.append_joined(duration, count)
     }
 
+    /// The full tick of a stamp: the next tick plus the difference where the stamp joins or is a gap,
+    /// and 2^32 ticks before that where it is an overlap; none below 0 or over the limit of a tick.
+    pub fn full_tick(&self, stamp: u32) -> Option<Tick> {
+        let difference = self.stamp_less_next(stamp);
+        let ticks = match self.judge_stamp(stamp) {
+            Err(Refusal::StartBeforeNext) => difference - (1 << 32),
+            _ => difference,
+        };
+        self.next_tick.wide().later(ticks).limited()
+    }
+
     /// The append of a negative r: the least count, at least 1, whose end reaches or passes the
     /// period end. Refusals 3, 4 or 5, 18, 8, 6, 7, 9, in this order.
     pub fn append_to_period_end(&mut self, start: u64, duration: u32) -> Result<(), Refusal> {
@@ -168,12 +179,17 @@ impl Timeline {
     /// Refusals 4 and 5 for a stamp: stamp less next tick, modulo 2^32; 0 joins, 1 to 2^31 - 1 is
     /// a gap, the rest an overlap.
     fn judge_stamp(&self, stamp: u32) -> Result<(), Refusal> {
-        let difference = i128::from(stamp) - i128::from(self.next_tick.get());
-        match difference.rem_euclid(1 << 32) {
+        match self.stamp_less_next(stamp) {
             0 => Ok(()),
             1..=0x7fff_ffff => Err(Refusal::StartAfterNext),
             _ => Err(Refusal::StartBeforeNext),
         }
+    }
+
+    /// Stamp less next tick, modulo 2^32.
+    fn stamp_less_next(&self, stamp: u32) -> i128 {
+        let difference = i128::from(stamp) - i128::from(self.next_tick.get());
+        difference.rem_euclid(1 << 32)
     }
 
     /// The rest of an append whose start is the next tick. Refusals 6, 7, 8, 9.

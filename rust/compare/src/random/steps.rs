@@ -56,7 +56,7 @@ fn call(generator: &mut Generator, state: &State) -> Call {
     if (state.is_closed() && generator.percent(80)) || state.kept() > MOST_KEPT {
         return open_or_read(generator);
     }
-    match generator.below(40) {
+    match generator.below(46) {
         0 => open_or_read(generator),
         1..=13 => append(generator, state),
         14..=19 => append_stamp(generator, state),
@@ -72,6 +72,9 @@ fn call(generator: &mut Generator, state: &State) -> Call {
         },
         33 | 34 => touching(generator, state),
         35 | 36 => read(generator),
+        37 | 38 => available_at(generator, state),
+        39 | 40 => Call::CoveredEdge,
+        41 | 42 => full_tick(generator, state),
         _ => write(generator, state),
     }
 }
@@ -114,6 +117,32 @@ fn number(generator: &mut Generator, state: &State) -> u64 {
         3 => generator.of_any_size(),
         4 => kept.wrapping_add(generator.pick(&[1, 1 << 31]) << 32),
         _ => kept,
+    }
+}
+
+/// A number at the start or the end of its own availability, or at some other clock.
+fn available_at(generator: &mut Generator, state: &State) -> Call {
+    let number = number(generator, state);
+    let clock = match state.availability_of(number) {
+        Some((start, end)) if generator.percent(70) => {
+            let moment = generator.pick(&[start, end]);
+            generator.near(moment)
+        }
+        _ => clocks::clock(generator, state),
+    };
+    Call::AvailableAt { number, clock }
+}
+
+/// A stamp near the next tick's, near the other side of the circle, or any.
+fn full_tick(generator: &mut Generator, state: &State) -> Call {
+    let stamp = match generator.below(5) {
+        0 => generator.near(state.next_tick.wrapping_add(1 << 31)),
+        1 => generator.number(),
+        2 => generator.pick(&[0, limits::NUMBER]),
+        _ => appends::start(generator, state),
+    };
+    Call::FullTick {
+        stamp: stamp as u32,
     }
 }
 

@@ -186,6 +186,57 @@ fn an_availability_that_ends_without_the_own_duration() {
 }
 
 #[test]
+fn an_edge_a_millisecond_too_late() {
+    let covered_edge = |record: &[u64], table: &[u64], out: &mut [u64]| {
+        let number = (PLAIN.covered_edge)(record, table, out);
+        if number == 0 && out[0] == 1 && out[1] < limits::MILLIS {
+            out[1] += 1;
+        }
+        number
+    };
+    found(
+        Face {
+            covered_edge,
+            ..PLAIN
+        },
+        "out word 1",
+    );
+}
+
+#[test]
+fn a_stamp_half_a_circle_away_that_lies_ahead() {
+    let full_tick = |record: &[u64], table: &[u64], stamp, out: &mut [u64]| {
+        let number = (PLAIN.full_tick)(record, table, stamp, out);
+        if number == 0 && out[0] == 1 && out[1] + (1 << 31) == record[word::NEXT_TICK] {
+            out[1] += 1 << 32;
+        }
+        number
+    };
+    found(Face { full_tick, ..PLAIN }, "out word 1");
+}
+
+#[test]
+fn a_reference_available_at_its_end() {
+    let available_at = |record: &[u64], table: &[u64], number, clock: u64, out: &mut [u64]| {
+        let answer = (PLAIN.available_at)(record, table, number, clock, out);
+        let mut span = [0; 3];
+        (PLAIN.availability)(record, table, number, &mut span);
+        let at = i128::from(clock) * i128::from(record.first().copied().unwrap_or(0));
+        if answer == 0 && span[0] == 1 && at == i128::from(span[2]) {
+            out[0] = 1;
+        }
+        answer
+    };
+    found(
+        Face {
+            available_at,
+            ..PLAIN
+        },
+        "out word 0: 1 and 0",
+    );
+}
+
+#[test]
 fn a_number_cut_to_32_bits() {
     let availability = |record: &[u64], table: &[u64], number, out: &mut [i64]| {
         (PLAIN.availability)(record, table, number & limits::NUMBER, out)

@@ -21,7 +21,7 @@ fn agreement_comes_before_all_else() {
     assert_eq!(lent.verdict(u64::MAX), Err(2));
     assert_eq!(lent.verdict_whole(), Err(2));
     assert_eq!(lent.availability(u64::MAX), Err(2));
-    assert_eq!(lent.available_at(u32::MAX, u64::MAX), Err(2));
+    assert_eq!(lent.available_at(u64::MAX, u64::MAX), Err(2));
     assert_eq!(lent.touching(1, 0), Err(2));
     assert_eq!(lent.write_into(0), Err(2));
     let mut nothing_kept = Lent::opened(CASE_B, 0, 30);
@@ -82,7 +82,7 @@ fn an_append_is_8_before_9() {
 #[test]
 fn other_calls() {
     let lent = case_b();
-    assert_eq!(lent.available_at(u32::MAX, Millis::MAX + 1), Err(10));
+    assert_eq!(lent.available_at(u64::MAX, Millis::MAX + 1), Err(10));
     assert_eq!(Lent::opened(CASE_B, 0, 30).write_into(0), Err(12));
 }
 

@@ -88,6 +88,19 @@ fn verdict_whole_is_never_11() {
 }
 
 #[test]
+fn covered_edge() {
+    assert_eq!(damaged().covered_edge(), Err(2));
+    assert_eq!(case_b().covered_edge(), Ok([1, 20_000]));
+}
+
+#[test]
+fn full_tick() {
+    assert_eq!(damaged().full_tick(0), Err(2));
+    assert_eq!(case_b().full_tick(20_001), Ok([1, 20_001]));
+    assert_eq!(case_b().full_tick(u32::MAX), Ok([0, 0]));
+}
+
+#[test]
 fn availability() {
     assert_eq!(damaged().availability(1), Err(2));
     let mut lent = case_b();
@@ -104,10 +117,13 @@ fn availability() {
 
 #[test]
 fn available_at() {
-    assert_eq!(damaged().available_at(1, 0), Err(2));
+    assert_eq!(damaged().available_at(1, u64::MAX), Err(2));
     let lent = case_b();
     assert_eq!(lent.available_at(1, Millis::MAX + 1), Err(10));
+    assert_eq!(lent.available_at(u64::MAX, Millis::MAX + 1), Err(10));
     assert_eq!(lent.available_at(6, 0), Err(13));
+    assert_eq!(lent.available_at((1 << 32) + 3, 12_000), Err(13));
+    assert_eq!(lent.available_at(3, 12_000), Ok(true));
 }
 
 #[test]
@@ -179,6 +195,12 @@ fn a_record_of_another_length_is_2_and_changes_nothing() {
         assert_eq!(face::verdict(&record, &table, 0, &mut out[..4]), 2);
         assert_eq!(face::verdict_whole(&record, &table, &mut out), 2);
         assert_eq!(face::availability(&record, &table, 0, &mut signed), 2);
+        assert_eq!(
+            face::available_at(&record, &table, 0, u64::MAX, &mut out[..1]),
+            2
+        );
+        assert_eq!(face::covered_edge(&record, &table, &mut out[..2]), 2);
+        assert_eq!(face::full_tick(&record, &table, 0, &mut out[..2]), 2);
         assert_eq!(face::touching(&record, &table, 1, 0, &mut out[..2]), 2);
         assert_eq!(face::read(b"", &mut record, &mut table, &mut out[..1]), 2);
         assert_eq!(face::read(b"", &mut record, &mut table, &mut []), 2);
@@ -212,9 +234,12 @@ fn an_out_of_another_length_is_15_before_agreement() {
         for words in (0..8).filter(|words| *words != 2) {
             let out = &mut out[..words];
             assert_eq!(face::touching(&record, &table, 1, 0, out), 15);
+            assert_eq!(face::covered_edge(&record, &table, out), 15);
+            assert_eq!(face::full_tick(&record, &table, 0, out), 15);
         }
         for words in (0..8).filter(|words| *words != 1) {
             let out = &mut out[..words];
+            assert_eq!(face::available_at(&record, &table, 0, u64::MAX, out), 15);
             assert_eq!(face::read(b"", &mut record, &mut table, out), 15);
             assert_eq!(face::write(&record, &table, &mut bytes, out), 15);
         }

@@ -335,7 +335,7 @@ fn availability(generator: &mut Generator, lent: &Lent, model: &Model) {
     assert_eq!(lent.availability(number.into()), model.availability(number));
     let clock = random_clock(generator);
     let expected = model.available_at(number, clock);
-    assert_eq!(lent.available_at(number, clock), expected);
+    assert_eq!(lent.available_at(number.into(), clock), expected);
 }
 
 #[test]

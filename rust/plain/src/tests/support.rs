@@ -130,6 +130,18 @@ impl Lent {
         })
     }
 
+    pub fn covered_edge(&self) -> Result<[u64; 2], u32> {
+        asked(5555, |out| {
+            face::covered_edge(&self.record, &self.table, out)
+        })
+    }
+
+    pub fn full_tick(&self, stamp: u32) -> Result<[u64; 2], u32> {
+        asked(5555, |out| {
+            face::full_tick(&self.record, &self.table, stamp, out)
+        })
+    }
+
     pub fn verdict_whole(&self) -> Result<[u64; 5], u32> {
         asked(5555, |out| {
             face::verdict_whole(&self.record, &self.table, out)
@@ -148,9 +160,12 @@ impl Lent {
         })
     }
 
-    pub fn available_at(&self, number: u32, clock: u64) -> Result<bool, u32> {
-        crate::record::available_at(&self.record, &self.table, number, clock)
-            .map_err(|refusal| refusal.number())
+    pub fn available_at(&self, number: u64, clock: u64) -> Result<bool, u32> {
+        let [available] = asked(5555, |out| {
+            face::available_at(&self.record, &self.table, number, clock, out)
+        })?;
+        assert!(available <= 1);
+        Ok(available == 1)
     }
 
     /// The references that the used runs stand for.
