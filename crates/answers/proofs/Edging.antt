@@ -7,7 +7,7 @@ use native.Mathlib.Nat.{zero-add, le-antisymm, le-div-iff-mul-le, div-lt-iff-lt-
 use native.Mathlib.Omega.{arith}
 use borrow.Author.Tests.{ltb-true, ltb-false, leb-true, leb-false, le-leb, lt-leb, not-true, not-false}
 use lib.Dec.{leb, ltb}
-use lib.IntN.{ℤ, pos}
+use lib.IntN.{pos}
 use lib.Signed.{leZ}
 use Rattle.units.specs.Limits.{largestMillis}
 use Rattle.units.specs.Product.{Product}
@@ -58,7 +58,7 @@ module _ (p : ℕ → Bool) where
       go false e r = one-more n (latestUpto p n) e r
 
   -- a clock that passes is not later than the right answer
-  not-later : (n a b : ℕ) → p b ≡ true → b ≤ n → ((j : ℕ) → a < j → j ≤ n → p j ≡ false) → b ≤ a
+  pub not-later : (n a b : ℕ) → p b ≡ true → b ≤ n → ((j : ℕ) → a < j → j ≤ n → p j ≡ false) → b ≤ a
   not-later n a b e l none = go (leb b a) refl
     where
       go : (t : Bool) → leb b a ≡ t → b ≤ a

@@ -57,10 +57,10 @@ use Rattle.laws.proofs.Files.{written}
 
 -- ---- the states that the calls leave
 
-abbrev stateA : State
+abbrev pub stateA : State
 stateA = stateOf headA 2 0 161 0 2 (111 ∷ 40 ∷ 1 ∷ 151 ∷ 10 ∷ 1 ∷ [])
 
-abbrev stateB : State
+abbrev pub stateB : State
 stateB = stateOf headB 5 0 20_000 0 1 (0 ∷ 4000 ∷ 5 ∷ [])
 
 abbrev stateB1 : State
@@ -75,7 +75,7 @@ stateB3 = stateOf headB 5 2 20_000 18_000 1 (8000 ∷ 4000 ∷ 3 ∷ [])
 abbrev stateD1 : State
 stateD1 = stateOf headD 1 0 1 0 1 (0 ∷ 1 ∷ 1 ∷ [])
 
-abbrev stateD2 : State
+abbrev pub stateD2 : State
 stateD2 = stateOf headD 2 0 2 0 1 (0 ∷ 1 ∷ 2 ∷ [])
 
 -- each call from the state that stands before it
@@ -131,14 +131,14 @@ b-two = ap (λ s. trimming s 18_000) b-one ∙ steps .b-two
 d-two : twoD ≡ stateD2
 d-two = ap (λ s. appending s 1 1 1) (steps .d-one) ∙ steps .d-two
 
-record Agree : Type 0 where
-  a : agrees (stateA .rec) (stateA .words) ≡ true
-  b : agrees (stateB .rec) (stateB .words) ≡ true
-  b-after : agrees (stateB3 .rec) (stateB3 .words) ≡ true
-  d-one : agrees (stateD1 .rec) (stateD1 .words) ≡ true
-  d-two : agrees (stateD2 .rec) (stateD2 .words) ≡ true
+pub record Agree : Type 0 where
+  pub a : agrees (stateA .rec) (stateA .words) ≡ true
+  pub b : agrees (stateB .rec) (stateB .words) ≡ true
+  pub b-after : agrees (stateB3 .rec) (stateB3 .words) ≡ true
+  pub d-one : agrees (stateD1 .rec) (stateD1 .words) ≡ true
+  pub d-two : agrees (stateD2 .rec) (stateD2 .words) ≡ true
 
-agreed : Agree
+pub agreed : Agree
 unfolding agrees runsOf repeated referencesOf runsShaped zeros lastEnd every place moment periodEnd lowEdge
 agreed = record { a = refl; b = refl; b-after = refl; d-one = refl; d-two = refl }
 

@@ -1,7 +1,7 @@
 -- The covered edge is right. Kept references end at the next tick; past the edge the tick that holds the last grain before the
 -- upper edge is at or after it, is needed where the window is not empty, and lies in no kept reference.
 use mathlib.Core.Path.{_≡_, refl, sym, ap, subst, _∙_}
-use mathlib.Core.Bool.{Bool, true, false, cond, true≢false, false≢true}
+use mathlib.Core.Bool.{Bool, true, false, cond, true≢false}
 use mathlib.Core.List.{List, [], _∷_}
 use Prim.Native.Nat.{ℕ, _+_, _-_, _*_, _/_, _≤_, _<_, min, max}
 use native.Mathlib.Nat.{mul-le-mul-right}
@@ -17,7 +17,7 @@ use Rattle.units.specs.declared.WideMillis.{WideMillis}
 use Rattle.units.proofs.Signed.{up, is-pos, le-is}
 use Rattle.window.specs.declared.Head.{Head}
 use Rattle.window.specs.declared.Reference.{Reference}
-use Rattle.window.specs.Place.{place, moment, periodEnd, endKnown, beforeEnd}
+use Rattle.window.specs.Place.{place, moment, periodEnd, beforeEnd}
 use Rattle.window.specs.Window.{Stretch, lowEdge, highEdge, windowAt, tickNeeded}
 use Rattle.window.specs.Ticks.{reachesEnd}
 use Rattle.window.proofs.Ranges.{in-range, past-range}
@@ -32,7 +32,7 @@ use Rattle.agreement.specs.declared.refusal.Refusal.the-variants.{Disagreement}
 use Rattle.agreement.specs.Agreement.{every, agrees, kept}
 use Rattle.keeping.specs.Keeping.{changedBy, wordsBy}
 use Rattle.timeline.specs.Opening.{openOutcome}
-use Rattle.answers.specs.declared.Verdict.the-variants.{Complete, Lacking}
+use Rattle.answers.specs.declared.Verdict.the-variants.{Complete}
 use Rattle.answers.specs.declared.CoveredEdge.{CoveredEdge}
 use Rattle.answers.specs.declared.CoveredEdge.the-variants.{At, Never, Refused}
 use Rattle.answers.specs.Cover.{coveredBy}
@@ -44,13 +44,13 @@ use Rattle.answers.proofs.Covering.{needed-below}
 use Rattle.answers.proofs.Cases.{to-lacking, asked-at}
 use Rattle.answers.proofs.Agreed.{none-reach, first-reach, kept-cover}
 use Rattle.answers.proofs.Completeness.{complete-at}
-use Rattle.answers.proofs.Edging.{Latest, latest-right, right-is, by-clock, by-end}
+use Rattle.answers.proofs.Edging.{Latest, latest-right, right-is, by-clock, by-end, not-later}
 use Rattle.flonterri.specs.Words.{headWith}
 use Rattle.laws.specs.Calls.{State}
 use Rattle.laws.specs.Demand2.{MayAsk, atClock}
 use Rattle.laws.specs.ByHand.{headA, headB, headD, stateOf}
 use Rattle.laws.specs.Edge.{LatestClock, NotEmpty, SaysLacking, clock, openLate, EdgeRight}
-use Rattle.laws.proofs.ByHand.{by-hand}
+use Rattle.laws.proofs.ByHand.{stateA, stateB, stateD2, agreed, by-hand}
 
 -- ---- a tick that is needed and lies in no reference
 
@@ -69,7 +69,7 @@ natural (pos m) n e l = ap pos e
 natural (negsuc m) n e l = let y : ⊥ = omega arith in absurd y
 
 module _ (h : Head) (c : ℕ) where
-  pub wide : NotEmpty (windowAt h c) → lowN h c < highN h c
+  wide : NotEmpty (windowAt h c) → lowN h c < highN h c
   wide e =
       ltb-true (lowN h c) (highN h c)
       (sym (ap (λ z. ltZ z (highEdge h c)) (low-is h c) ∙ up-lt (lowN h c) (highEdge h c) ∙ ap (ltb (lowN h c)) (high-up h c)) ∙ e)
@@ -228,23 +228,24 @@ module _ (rec : Record) (ws : List ℕ) where
         said : (agrees rec ws ≡ true) × (leb (c .0) largestMillis ≡ true) × (leb (rec .clock .0) (c .0) ≡ true) × Whole (rec .head) (atClock rec c) (kept rec ws)
         said = complete-at rec ws c .only (ap complete e)
 
-        passed : test (c .0) ≡ false → ⊥
-        passed f =
-            let whole = said .3 in
-            let l : lowN (rec .head) (c .0) < highN (rec .head) (c .0) = some-wide (rec .head) (c .0) (whole .some .0) (whole .some .1) in
-            true≢false
-            (sym (whole .each (last (rec .head) (c .0)) (last-needed (rec .head) (c .0) l)) ∙ last-uncovered rec ws (said .0) (c .0) l f)
+        held : c .0 ≤ largestMillis
+        held = leb-true (c .0) largestMillis (said .1)
 
-        not-later : (m : ℕ) → ((j : ℕ) → m < j → j ≤ largestMillis → test j ≡ false) → c .0 ≤ m
-        not-later m none = go (leb (c .0) m) refl
+        there : test (c .0) ≡ true
+        there = go (test (c .0)) refl
           where
-            go : (t : Bool) → leb (c .0) m ≡ t → c .0 ≤ m
-            go true l = leb-true (c .0) m l
-            go false l = absurd (passed (none (c .0) (leb-false (c .0) m l) (leb-true (c .0) largestMillis (said .1))))
+            go : (t : Bool) → test (c .0) ≡ t → test (c .0) ≡ true
+            go true f = f
+            go false f =
+                let whole = said .3 in
+                let l : lowN (rec .head) (c .0) < highN (rec .head) (c .0) = some-wide (rec .head) (c .0) (whole .some .0) (whole .some .1) in
+                absurd
+                (true≢false
+                (sym (whole .each (last (rec .head) (c .0)) (last-needed (rec .head) (c .0) l)) ∙ last-uncovered rec ws (said .0) (c .0) l f))
 
         upto : (x : CoveredEdge) → edge ≡ x → (m : Millis) × (coveredEdge rec ws ≡ At m) × (c .0 ≤ m .0)
-        upto (At m) g = (m, asked (said .0) ∙ g, not-later (m .0) (known (At m) g .2))
-        upto Never g = absurd (passed (known Never g (c .0) (leb-true (c .0) largestMillis (said .1))))
+        upto (At m) g = (m, asked (said .0) ∙ g, not-later test largestMillis (m .0) (c .0) there held (known (At m) g .2))
+        upto Never g = absurd (true≢false (sym there ∙ known Never g (c .0) held))
         upto (Refused why) g = absurd (known (Refused why) g)
 
 -- ---- by hand
@@ -263,23 +264,11 @@ at-clock h k m b l u v =
           by-clock h k j b ∙ lt-leb (j * h .timescale .0 + h .offset .0 * 1000) (k * 1000 + h .start .0 * h .timescale .0) (omega arith),
     ))
 
-abbrev stateA : State
-stateA = stateOf headA 2 0 161 0 2 (111 ∷ 40 ∷ 1 ∷ 151 ∷ 10 ∷ 1 ∷ [])
-
-abbrev stateB : State
-stateB = stateOf headB 5 0 20_000 0 1 (0 ∷ 4000 ∷ 5 ∷ [])
-
-abbrev stateD : State
-stateD = stateOf headD 2 0 2 0 1 (0 ∷ 1 ∷ 2 ∷ [])
-
 abbrev stateLate : State
 stateLate = stateOf (headWith 1000 5 0 0 10_000 1) 0 0 0 0 0 (0 ∷ 0 ∷ 0 ∷ [])
 
 record Worked : Type 0 where
-  a : agrees (stateA .rec) (stateA .words) ≡ true
   a-before : beforeEnd headA 161 ≡ true
-  b : agrees (stateB .rec) (stateB .words) ≡ true
-  d : agrees (stateD .rec) (stateD .words) ≡ true
   d-reaches : reachesEnd headD 2 ≡ true
   late : agrees (stateLate .rec) (stateLate .words) ≡ true
   late-state : openLate ≡ stateLate
@@ -287,7 +276,7 @@ record Worked : Type 0 where
 
 worked : Worked
 unfolding agrees runsOf wordsOf repeated referencesOf runsShaped zeros lastEnd every place moment periodEnd lowEdge highEdge changedBy wordsBy openOutcome
-worked = record { a = refl; a-before = refl; b = refl; d = refl; d-reaches = refl; late = refl; late-state = refl; late-zero = refl }
+worked = record { a-before = refl; d-reaches = refl; late = refl; late-state = refl; late-zero = refl }
 
 pub edge-right : EdgeRight
 edge-right =
@@ -300,15 +289,15 @@ edge-right =
       lacking-ever = lacking-ever;
       complete-upto = complete-upto;
       a-edge =
-          ap (λ s. coveredEdge (s .rec) (s .words)) (by-hand .a-state) ∙ asked (stateA .rec) (stateA .words) (worked .a) ∙
+          ap (λ s. coveredEdge (s .rec) (s .words)) (by-hand .a-state) ∙ asked (stateA .rec) (stateA .words) (agreed .a) ∙
           at-clock headA 161 36_100 (worked .a-before) (lit≤ tt) (lit≤ tt) (lit< tt);
       b-edge =
-          ap (λ s. coveredEdge (s .rec) (s .words)) (by-hand .b-state) ∙ asked (stateB .rec) (stateB .words) (worked .b) ∙
+          ap (λ s. coveredEdge (s .rec) (s .words)) (by-hand .b-state) ∙ asked (stateB .rec) (stateB .words) (agreed .b) ∙
           at-clock headB 20_000 20_000 refl (lit≤ tt) (lit≤ tt) (lit< tt);
       b-none =
           ap (λ s. coveredEdge (s .rec) (s .words)) (worked .late-state) ∙
           never (stateLate .rec) (stateLate .words) .if (worked .late, worked .late-zero);
       d-edge =
           ap (λ s. coveredEdge (s .rec) (s .words)) (by-hand .d-state) ∙
-          limit (stateD .rec) (stateD .words) (worked .d) (lit≤ tt) (worked .d-reaches);
+          limit (stateD2 .rec) (stateD2 .words) (agreed .d-two) (lit≤ tt) (worked .d-reaches);
     }
