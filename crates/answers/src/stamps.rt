@@ -1,5 +1,5 @@
-// The full tick of a stamp: after a gap or an overlap the caller has a stamp alone, and a gap is
-// named by its ticks. None is widened by hand.
+// The full tick of a stamp. Where an append by stamp is a gap or an overlap, the caller learns from it
+// which ticks are missing or came twice, and widens no stamp by hand.
 ghost use mathlib.Core.Path.{_≡_};
 ghost use Rattle.answers.specs.Stamps.{foundTick, fullTickIn, fullTickNumber};
 use agreement::Record;

@@ -11,7 +11,6 @@ use Rattle.units.specs.declared.Stamp.{Stamp}
 use Rattle.units.specs.declared.Tick.{Tick}
 use Rattle.units.specs.declared.full.Full.{Full}
 use Rattle.units.specs.declared.full.Full.the-variants as full
-use Rattle.units.specs.Exactly.{ExactlyWhen}
 use Rattle.units.specs.Full.{fullTick}
 use Rattle.units.specs.Limits.{largestTick}
 use Rattle.units.specs.Standing.{less32, tickStanding, stampStanding}
@@ -56,7 +55,7 @@ near m n d e a b l = omega arith
 far : (m n d : ℕ) → m % 2 ^ 32 ≡ (n + d) % 2 ^ 32 → n ≤ m + 2 ^ 31 → m < n + 2 ^ 31 → 2 ^ 31 ≤ d → d < 2 ^ 32 → m ≡ n - (2 ^ 32 - d)
 far m n d e a b l k = omega arith
 
--- and far from 0 too: it does not lie below it
+-- and where it lies behind, it does not lie below 0
 not-below : (m n d : ℕ) → m % 2 ^ 32 ≡ (n + d) % 2 ^ 32 → n ≤ m + 2 ^ 31 → m < n + 2 ^ 31 → 2 ^ 31 ≤ d → d < 2 ^ 32 → 2 ^ 32 - d ≤ n
 not-below m n d e a b l k = omega arith
 

@@ -4,6 +4,7 @@ ghost use mathlib.Core.Path.{_≡_};
 ghost use Rattle.units.specs.Full.{fullTick};
 use crate::Stamp;
 use crate::Tick;
+use crate::standing::HALF;
 
 pub enum Full {
     At(Tick),
@@ -13,15 +14,13 @@ pub enum Full {
 // The stamps go round in so many ticks.
 const CIRCLE: u64 = 4_294_967_296;
 
-// A stamp exactly this far away lies behind.
-const HALF: u64 = 2_147_483_648;
-
 impl Stamp {
     pub fn full(self, next: Tick) -> Full
         ensures { λ r. ⌜ r ≡ fullTick self next ⌝ }
     {
-        let distance = self.apart(next) as u64;
-        if distance < HALF {
+        let apart = self.apart(next);
+        let distance = apart as u64;
+        if apart < HALF {
             if Tick::LARGEST - distance < next.0 {
                 return Full::Nowhere;
             }

@@ -13,7 +13,7 @@ pub enum Standing {
 }
 
 // Half of the stamps lie ahead of any tick, and half behind it.
-const HALF: u32 = 2_147_483_648;
+pub(crate) const HALF: u32 = 2_147_483_648;
 
 impl Stamp {
     // The stamp less the next tick, modulo 2^32.
