@@ -11,6 +11,8 @@ use Rattle.answers.specs.declared.Touching.{Touching}
 use Rattle.answers.specs.declared.Touching.the-variants as touching
 use Rattle.answers.specs.declared.CoveredEdge.{CoveredEdge}
 use Rattle.answers.specs.declared.CoveredEdge.the-variants as edge
+use Rattle.answers.specs.declared.stamps.FullTick.{FullTick}
+use Rattle.answers.specs.declared.stamps.FullTick.the-variants as full
 
 abbrev pub verdictNumber : Verdict → ℕ
 verdictNumber verdict.Nothing = 0
@@ -36,3 +38,8 @@ abbrev pub edgeNumber : CoveredEdge → ℕ
 edgeNumber (edge.At clock) = 0
 edgeNumber edge.Never = 0
 edgeNumber (edge.Refused why) = refusalNumber why
+
+abbrev pub fullTickNumber : FullTick → ℕ
+fullTickNumber (full.At tick) = 0
+fullTickNumber full.Nowhere = 0
+fullTickNumber (full.Refused why) = refusalNumber why

@@ -9,7 +9,6 @@ use Rattle.units.specs.Full.{fullTick}
 use Rattle.agreement.specs.declared.Record.{Record}
 use Rattle.agreement.specs.declared.refusal.Refusal.the-variants.{Disagreement}
 use Rattle.agreement.specs.Agreement.{agrees}
-use Rattle.agreement.specs.Numbers.{refusalNumber}
 use Rattle.agreement.specs.Rows.{_unless_else_}
 use Rattle.answers.specs.declared.stamps.FullTick.{FullTick}
 use Rattle.answers.specs.declared.stamps.FullTick.the-variants.{At, Nowhere, Refused}
@@ -23,9 +22,3 @@ abbrev pub fullTickIn : Record → List ℕ → Stamp → FullTick
 fullTickIn rec ws stamp =
     Refused Disagreement unless agrees rec ws else
     foundTick (fullTick stamp (rec .next))
-
--- the paper's number of the answer, 0 where it is not refused
-abbrev pub fullTickNumber : FullTick → ℕ
-fullTickNumber (At tick) = 0
-fullTickNumber Nowhere = 0
-fullTickNumber (Refused why) = refusalNumber why

@@ -1,7 +1,8 @@
 // The full tick of a stamp. Where an append by stamp is a gap or an overlap, the caller learns from it
 // which ticks are missing or came twice, and widens no stamp by hand.
 ghost use mathlib.Core.Path.{_≡_};
-ghost use Rattle.answers.specs.Stamps.{foundTick, fullTickIn, fullTickNumber};
+ghost use Rattle.answers.specs.Numbers.{fullTickNumber};
+ghost use Rattle.answers.specs.Stamps.{foundTick, fullTickIn};
 use agreement::Record;
 use agreement::Refusal;
 use units::Full;

@@ -32,12 +32,11 @@ use Rattle.timeline.specs.Trimming.{trimOutcome}
 use Rattle.timeline.proofs.Kept.{open-agrees, trim-keeps, accepted-keeps}
 use Rattle.answers.specs.declared.Numbered.the-variants.{Missing}
 use Rattle.answers.specs.declared.Availability.the-variants as availability
-use Rattle.answers.specs.Available.{numbered, keptNumber, numberAvailability, availabilityIn}
+use Rattle.answers.specs.Available.{numbered, keptNumber, numberAvailability, availabilityIn, numberAvailable, availableIn}
 use Rattle.answers.specs.declared.AvailableAt.the-variants as at
 use Rattle.answers.specs.declared.stamps.FullTick.the-variants as full
-use Rattle.answers.specs.Available.{numberAvailable, availableIn}
-use Rattle.answers.specs.Numbers.{availableNumber}
-use Rattle.answers.specs.Stamps.{foundTick, fullTickIn, fullTickNumber}
+use Rattle.answers.specs.Numbers.{availableNumber, fullTickNumber}
+use Rattle.answers.specs.Stamps.{foundTick, fullTickIn}
 use Rattle.answers.specs.declared.Touching.{Touching}
 use Rattle.answers.specs.declared.Touching.the-variants as touching
 use Rattle.answers.specs.Spans.{touches, beforeFirst, uptoLast, touchingWords}
@@ -46,8 +45,7 @@ use Rattle.file.specs.declared.Reading.{Reading}
 use Rattle.file.specs.Judging.{readOutcome, readAnswer, readTable, answeredBy, readLines}
 use Rattle.file.proofs.Stable.{read-agrees}
 use Rattle.flonterri.specs.Words.{recordWords, recordOf, wordsOf, headWith}
-use Rattle.flonterri.specs.Tells.{Tells, availabilityTells, touchingTells}
-use Rattle.flonterri.specs.Tells.{availableTells, fullTickTells}
+use Rattle.flonterri.specs.Tells.{Tells, availabilityTells, touchingTells, availableTells, fullTickTells}
 use Rattle.flonterri.specs.Face.{wrongRecord, wrongLength, guarded, Changes, changes, opens, appendsBy, appends, appendsStamp, trims, tells, tellsTouching, tellsAvailability, Reads, readsBy, reads}
 use Rattle.flonterri.specs.Face.{tellsAvailable, tellsFullTick}
 use Rattle.flonterri.specs.Binding.{agreed, LeavesAgreed, Binding}

@@ -12,8 +12,7 @@ use lib.ListN.{length}
 use Rattle.units.specs.Limits.{largestSpan, largestMillis, largestNumber}
 use Rattle.agreement.specs.Agreement.{agrees}
 use Rattle.flonterri.specs.Words.{recordWords, recordOf}
-use Rattle.flonterri.specs.Face.{Changes, opens, appends, appendsStamp, trims, tellsTouching, tellsAvailability, reads}
-use Rattle.flonterri.specs.Face.{tellsAvailable, tellsFullTick}
+use Rattle.flonterri.specs.Face.{Changes, opens, appends, appendsStamp, trims, tellsTouching, tellsAvailability, reads, tellsAvailable, tellsFullTick}
 
 -- whether the record that words mean agrees with a table
 abbrev pub agreed : List ℕ → List ℕ → Bool

@@ -13,11 +13,10 @@ use Rattle.answers.specs.declared.stamps.FullTick.{FullTick}
 use Rattle.answers.specs.declared.stamps.FullTick.the-variants as full
 use Rattle.answers.specs.declared.Touching.{Touching}
 use Rattle.answers.specs.declared.Touching.the-variants as touching
-use Rattle.answers.specs.Numbers.{verdictNumber, availabilityNumber, touchingNumber, availableNumber, edgeNumber}
+use Rattle.answers.specs.Numbers.{verdictNumber, availabilityNumber, touchingNumber, availableNumber, edgeNumber, fullTickNumber}
 use Rattle.answers.specs.declared.CoveredEdge.{CoveredEdge}
 use Rattle.answers.specs.declared.CoveredEdge.the-variants as edge
 use Rattle.answers.specs.Shares.{verdictPercent, percentNumber}
-use Rattle.answers.specs.Stamps.{fullTickNumber}
 use Rattle.file.specs.declared.WriteAnswer.{WriteAnswer}
 use Rattle.file.specs.declared.WriteAnswer.the-variants as written
 use Rattle.file.specs.Writing.{writeNumber}

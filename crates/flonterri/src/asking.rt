@@ -2,8 +2,7 @@
 // What is told goes into the caller's `out`, which a refused call leaves as it came.
 ghost use mathlib.Core.Path.{_≡_};
 ghost use lib.ListN.{length};
-ghost use Rattle.answers.specs.Numbers.{availableNumber};
-ghost use Rattle.answers.specs.Stamps.{fullTickNumber};
+ghost use Rattle.answers.specs.Numbers.{availableNumber, fullTickNumber};
 ghost use Rattle.flonterri.specs.Tells.{availableOut, fullTickOut};
 ghost use Rattle.flonterri.specs.Face.{tellsAvailable, tellsFullTick};
 use crate::looking::put_two;

@@ -24,12 +24,11 @@ use Rattle.answers.specs.declared.AvailableAt.{AvailableAt}
 use Rattle.answers.specs.declared.AvailableAt.the-variants as at
 use Rattle.answers.specs.declared.stamps.FullTick.{FullTick}
 use Rattle.answers.specs.declared.stamps.FullTick.the-variants as full
-use Rattle.answers.specs.Stamps.{fullTickNumber}
 use Rattle.answers.specs.declared.Touching.{Touching}
 use Rattle.answers.specs.declared.Touching.the-variants as touching
 use Rattle.answers.specs.declared.CoveredEdge.{CoveredEdge}
 use Rattle.answers.specs.declared.CoveredEdge.the-variants as edge
-use Rattle.answers.specs.Numbers.{verdictNumber, availabilityNumber, availableNumber, touchingNumber, edgeNumber}
+use Rattle.answers.specs.Numbers.{verdictNumber, availabilityNumber, availableNumber, touchingNumber, edgeNumber, fullTickNumber}
 use Rattle.answers.specs.Spans.{partOf}
 use Rattle.file.specs.declared.Reader.{Reader}
 use Rattle.file.specs.declared.Reading.{Reading}
@@ -42,9 +41,8 @@ use Rattle.file.specs.SoFar.{soFar, firstBytes}
 use Rattle.file.specs.Feeding.{belongs, fedFile, fedReader, fedTable, finishOutcome, finishAnswer, finishTable}
 use Rattle.file.specs.Writing.{writeNumber, outputBy}
 use Rattle.flonterri.specs.Words.{recordWords, wordsOf}
-use Rattle.flonterri.specs.Tells.{Tells, verdictTells, availabilityTells, touchingTells, edgeTells, writeTells}
+use Rattle.flonterri.specs.Tells.{Tells, verdictTells, availabilityTells, touchingTells, edgeTells, writeTells, availableTells, fullTickTells}
 use Rattle.flonterri.specs.Face.{wrongRecord, wrongLength, guarded, changes, tells, readsBy, reads, writesBy, Changes as Seen, Reads as Readings, Writes as Wrote}
-use Rattle.flonterri.specs.Tells.{availableTells, fullTickTells}
 use Rattle.flonterri.proofs.Refusing.{read-refused}
 use Rattle.flonterri.proofs.Lengths.{both-right, behind}
 use Rattle.agreement.proofs.Numbers.{refusal-some}

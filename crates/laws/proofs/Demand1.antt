@@ -17,10 +17,10 @@ use Rattle.timeline.specs.Appending.{appendOutcome}
 use Rattle.timeline.specs.Trimming.{trimOutcome}
 use Rattle.answers.specs.Judgement.{verdictAt, verdictWhole}
 use Rattle.answers.specs.Available.{availabilityIn, availableIn}
-use Rattle.answers.specs.Stamps.{fullTickIn, fullTickNumber}
+use Rattle.answers.specs.Stamps.{fullTickIn}
 use Rattle.answers.specs.Spans.{touchingWords}
 use Rattle.answers.specs.Edge.{coveredEdge}
-use Rattle.answers.specs.Numbers.{verdictNumber, availabilityNumber, availableNumber, touchingNumber, edgeNumber}
+use Rattle.answers.specs.Numbers.{verdictNumber, availabilityNumber, availableNumber, touchingNumber, edgeNumber, fullTickNumber}
 use Rattle.file.specs.Writing.{writeNumber, writeAnswer, fileFor}
 use Rattle.flonterri.specs.Words.{recordOf, headWith}
 use Rattle.flonterri.specs.Tells.{verdictTells, availabilityTells, touchingTells, availableTells, fullTickTells, edgeTells}

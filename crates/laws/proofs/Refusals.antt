@@ -29,7 +29,7 @@ use Rattle.answers.specs.declared.Verdict.the-variants as verdict
 use Rattle.answers.specs.declared.Availability.the-variants as availability
 use Rattle.answers.specs.declared.AvailableAt.the-variants as at
 use Rattle.answers.specs.declared.stamps.FullTick.the-variants as full
-use Rattle.answers.specs.Stamps.{foundTick, fullTickIn, fullTickNumber}
+use Rattle.answers.specs.Stamps.{foundTick, fullTickIn}
 use Rattle.answers.specs.declared.Touching.{Touching}
 use Rattle.answers.specs.declared.Touching.the-variants as touching
 use Rattle.answers.specs.declared.Numbered.{Numbered}
@@ -41,7 +41,7 @@ use Rattle.answers.specs.Spans.{touches, beforeFirst, uptoLast, touchedWords, t
 use Rattle.answers.specs.declared.CoveredEdge.{CoveredEdge}
 use Rattle.answers.specs.declared.CoveredEdge.the-variants as edge
 use Rattle.answers.specs.Edge.{atOrBefore, edgeOf, coveredEdge}
-use Rattle.answers.specs.Numbers.{verdictNumber, availabilityNumber, availableNumber, touchingNumber, edgeNumber}
+use Rattle.answers.specs.Numbers.{verdictNumber, availabilityNumber, availableNumber, touchingNumber, edgeNumber, fullTickNumber}
 use Rattle.answers.proofs.Edging.{Latest, latest-right}
 use Rattle.file.specs.declared.WriteAnswer.the-variants as written
 use Rattle.file.specs.Writing.{fileFor, writeAnswer, writeNumber}

@@ -26,8 +26,7 @@ use Rattle.answers.specs.declared.Availability.the-variants.{Refused as Availab
 use Rattle.answers.specs.declared.AvailableAt.the-variants.{Refused as AvailableRefused}
 use Rattle.answers.specs.declared.stamps.FullTick.the-variants.{Refused as FullTickRefused}
 use Rattle.answers.specs.declared.Touching.the-variants.{Refused as TouchingRefused}
-use Rattle.answers.specs.Numbers.{verdictNumber, availabilityNumber, availableNumber, touchingNumber, edgeNumber}
-use Rattle.answers.specs.Stamps.{fullTickNumber}
+use Rattle.answers.specs.Numbers.{verdictNumber, availabilityNumber, availableNumber, touchingNumber, edgeNumber, fullTickNumber}
 use Rattle.answers.specs.declared.CoveredEdge.the-variants.{Refused as EdgeRefused}
 use Rattle.file.specs.declared.Reader.{Reader}
 use Rattle.file.specs.declared.ReadAnswer.{ReadAnswer}

@@ -21,7 +21,6 @@ use Rattle.file.proofs.Settling.{settled-file}
 use Rattle.report.specs.declared.ClockLine.{ClockLine}
 use Rattle.report.specs.declared.ClockLine.the-variants.{Unended, At, Whole, Refused}
 use Rattle.report.specs.declared.Desk.{Desk}
-use Rattle.report.specs.declared.Reply.{Reply}
 use Rattle.report.specs.declared.Reply.the-variants as reply
 use Rattle.report.specs.Clock.{askedBy, askedOn}
 use Rattle.report.specs.Text.{textOf}

@@ -36,7 +36,7 @@ use Rattle.answers.specs.Ranges.{inRange, verdictBy, pastNamed}
 use Rattle.answers.proofs.Agreed.{first-reach, agreed-verdict}
 use Rattle.answers.proofs.Judging.{all-covered, end-lacking, judge-nothing}
 use Rattle.file.specs.declared.ReadAnswer.{ReadAnswer}
-use Rattle.file.specs.Lines.{linesFrom, restFrom}
+use Rattle.file.specs.Lines.{linesFrom, restFrom, hasFeed, firstLine, behindFirst}
 use Rattle.file.specs.Judging.{settledReading, onNothing, onHeaded, onOpen, takeHead, takeFirstS, takeS, takeEnd, takeLine, takeLines, readLines, readOutcome, readAnswer, readTable}
 use Rattle.hex.specs.Digits.{between, isDigit, valueOf, areDigits, numberOf}
 use Rattle.frames.specs.Fields.{fieldValues}
@@ -45,7 +45,6 @@ use Rattle.hex.specs.Ascii.{ascii}
 use Rattle.frames.specs.Worked.{fieldsB}
 use Rattle.report.specs.declared.ClockLine.{ClockLine}
 use Rattle.report.specs.declared.ClockLine.the-variants.{At, Whole}
-use Rattle.file.specs.Lines.{hasFeed, firstLine, behindFirst}
 use Rattle.report.specs.Clock.{askedOn}
 use Rattle.report.specs.Answer.{askedIn, replyOn, replyIn, tableLength, answer}
 use Rattle.report.specs.Text.{decimalBy, decimal, shareText, refusedText, verdictText, textOf}

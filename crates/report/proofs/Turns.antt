@@ -7,7 +7,6 @@ use native.Mathlib.Omega.{arith}
 use lib.ListN.{length, take, drop}
 use lib.Seq.{take-at}
 use Rattle.report.specs.declared.Desk.{Desk}
-use Rattle.report.specs.declared.Stopped.{Stopped}
 use Rattle.report.specs.declared.Stopped.the-variants.{Ended, Settled, Failed}
 use Rattle.report.specs.declared.Fed.{Fed}
 use Rattle.report.specs.Text.{textOf}

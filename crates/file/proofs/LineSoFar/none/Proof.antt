@@ -1,5 +1,4 @@
 -- `none` meets its contract.
-use borrow.Author.Needs.{needs}
 use Rattle.file.proofs.SoFar.{none-is}
 use Rattle.file.proofs.LineSoFar.none.Statement.{statement}
 use Rattle.file.proofs.LineSoFar.none.Tie as tie

@@ -1,5 +1,4 @@
 -- `feed` meets its contract. The loop's invariant: what is left of the piece comes to the same. The measure is how much that is.
-use mathlib.Core.Path.{_≡_}
 use Prim.Native.Nat.{_-_}
 use lib.ListN.{length}
 use borrow.Author.Needs.{needs}

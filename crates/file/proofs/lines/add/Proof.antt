@@ -1,7 +1,5 @@
 -- `add` meets its contract. The loop's invariant: so much of the part is added. The measure is what is left to add.
-use mathlib.Core.Path.{_≡_}
 use Prim.Native.Nat.{_-_}
-use lib.ListN.{length}
 use borrow.Author.Needs.{needs}
 use Rattle.file.proofs.SoFar.{Added, room-left, added-none, added-place, added-part, added-more, added-all}
 use Rattle.file.proofs.lines.add.Statement.{statement}

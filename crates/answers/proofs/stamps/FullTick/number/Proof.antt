@@ -1,7 +1,7 @@
 -- `FullTick::number` meets its contract, case by case.
 use borrow.Author.Needs.{needs}
 use mathlib.Core.Path.{sym, ap, _∙_}
-use Rattle.answers.specs.Stamps.{fullTickNumber}
+use Rattle.answers.specs.Numbers.{fullTickNumber}
 use Rattle.answers.proofs.stamps.FullTick.number.Statement.{statement}
 use Rattle.answers.proofs.stamps.FullTick.number.Tie as tie
 
