@@ -202,7 +202,7 @@ uint32_t flonterri_availability(const uint64_t *record, size_t record_words, con
 
 /* Whether the kept reference of a number is available at a clock. out has 1 word, one of flonterri_available.
  * Refusals 2, 10, 13, and 15 for out; a number over 2^32 - 1 is never kept, and so is 13. Changes out alone;
- * refused it changes nothing. */
+ * refused it changes nothing. No null. */
 uint32_t flonterri_available_at(const uint64_t *record, size_t record_words, const uint64_t *table,
                                 size_t table_words, uint64_t number, uint64_t clock, uint64_t *out,
                                 size_t out_words);
@@ -211,7 +211,7 @@ uint32_t flonterri_available_at(const uint64_t *record, size_t record_words, con
  * lies less than 2^31 after the next tick, or before it by 2^31 at most. So a caller who hears of a gap or an
  * overlap widens no stamp by hand. out has 2 words, as flonterri_full_tick_word names them; where that tick
  * would lie below 0 or over 2^52 - 1 there is none, and both are 0. Refusals 2, and 15 for out. Changes out
- * alone; refused it changes nothing. */
+ * alone; refused it changes nothing. No null. */
 uint32_t flonterri_full_tick(const uint64_t *record, size_t record_words, const uint64_t *table, size_t table_words,
                              uint32_t stamp, uint64_t *out, size_t out_words);
 
@@ -226,8 +226,9 @@ uint32_t flonterri_touching(const uint64_t *record, size_t record_words, const u
  * end. It is the limit where the next tick reaches a known period end, and there is none where the upper edge
  * lies after the next tick at clock 0 already. It does not say that a verdict is complete up to it: it knows
  * nothing of the lower edge, where older references may be missing. And it may lie before the greatest clock,
- * where a verdict is 11. out has 2 words, as flonterri_edge_word names them; where there is no edge, both are
- * 0. Refusals 2, and 15 for out. Changes out alone; refused it changes nothing. */
+ * where a verdict is 11. It stands still where a packager has stopped: compare it with now, and ask and trim
+ * at the earlier of the two. out has 2 words, as flonterri_edge_word names them; where there is no edge, both
+ * are 0. Refusals 2, and 15 for out. Changes out alone; refused it changes nothing. No null. */
 uint32_t flonterri_covered_edge(const uint64_t *record, size_t record_words, const uint64_t *table,
                                 size_t table_words, uint64_t *out, size_t out_words);
 
