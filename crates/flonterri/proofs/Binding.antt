@@ -1,14 +1,15 @@
--- What a binding relies on: accepted calls leave words that agree, a call that looks tells whether words agree, a wide number is not kept, and the
--- full tick of a stamp is refused for disagreement alone.
+-- What a binding relies on: accepted calls leave words that agree, a call that looks tells whether words agree, a wide number is not kept, the
+-- full tick of a stamp is refused for disagreement alone, and zeros behind a table leave agreement as it is.
 use mathlib.Core.Path.{_≡_, refl, sym, ap, ap₂, _∙_}
-use mathlib.Core.Bool.{Bool, true, false, cond}
-use mathlib.Core.List.{List, [], _∷_, append-nil}
-use Prim.Native.Nat.{ℕ, _+_, _*_, _≤_, _<_}
+use mathlib.Core.Bool.{Bool, true, false, cond, _&&_}
+use mathlib.Core.List.{List, [], _∷_, _++_, append-assoc, append-nil}
+use Prim.Native.Nat.{ℕ, _+_, _-_, _*_, _/_, _≤_, _<_}
 use native.Mathlib.Omega.{arith}
 use borrow.Author.Tests.{eqb-false, leb-true, le-leb}
 use lib.Dec.{eqb}
 use lib.IntN.{ℤ}
-use lib.ListN.{length}
+use lib.ListN.{length, drop, replicate, length-append, replicate-append-replicate}
+use lib.Seq.{drop-at}
 use Rattle.units.specs.declared.WideMillis.{WideMillis}
 use Rattle.units.specs.declared.Stamp.{Stamp}
 use Rattle.units.specs.declared.full.Full.{Full}
@@ -17,11 +18,15 @@ use Rattle.units.specs.declared.standing.Standing.{Standing}
 use Rattle.units.specs.Full.{fullTick}
 use Rattle.units.specs.Limits.{largestSpan, largestMillis, largestNumber, clockHeld}
 use Rattle.units.specs.Standing.{tickStanding, stampStanding}
-use Rattle.runs.specs.Words.{runsOf}
+use Rattle.runs.specs.Words.{runsOf, wordsOf as runWords, referencesOf}
+use Rattle.runs.specs.Encoding.{tableOf}
+use Rattle.runs.specs.Shape.{runsShaped, zeros, shaped}
+use Rattle.runs.proofs.Opening.{runs-length, words-length}
+use Rattle.runs.proofs.Tables.{are-zeros, used-fits, used-words, runs-shaped, table-is, table-runs}
 use Rattle.agreement.specs.declared.Record.{Record}
 use Rattle.agreement.specs.declared.refusal.Refusal.the-variants as refusal
-use Rattle.agreement.specs.Agreement.{kept, agrees}
-use Rattle.agreement.proofs.Agreeing.{agreeing}
+use Rattle.agreement.specs.Agreement.{kept, recordHeld, keptRight, agrees}
+use Rattle.agreement.proofs.Agreeing.{agreeing, agree-shaped}
 use Rattle.agreement.proofs.Numbers.{refusal-some}
 use Rattle.keeping.specs.declared.Outcome.{Outcome}
 use Rattle.keeping.specs.declared.Outcome.the-variants as outcome
@@ -194,6 +199,51 @@ unfolding tellsFullTick fullTickTells
 full-told ws ts stamp out l m =
     told-number ws 2 (fullTickTells (fullTickIn (recordOf ws) ts (record { 0 = stamp }))) out l m ∙ full-number (recordOf ws) ts (record { 0 = stamp })
 
+-- ---- more room
+
+-- a shaped table with zeros behind it is the longer table of its own runs
+module _ (used : ℕ) (ts : List ℕ) (n : ℕ) (s : shaped used ts ≡ true) where
+  more-left : length ts - 3 * length (runsOf used ts) + n ≡ length ts + n - 3 * length (runsOf used ts)
+  more-left = omega (arith, used-words used ts s, runs-length used ts)
+
+  longer-is : ts ++ replicate n 0 ≡ tableOf (length ts + n) (runsOf used ts)
+  unfolding tableOf
+  longer-is =
+      let rs = runsOf used ts in
+      let left : ℕ = length ts - 3 * length rs in
+      ap (λ vs. vs ++ replicate n 0) (table-is used ts s) ∙
+      append-assoc (runWords rs) (replicate left 0) (replicate n 0) ∙
+      ap (λ vs. runWords rs ++ vs) (replicate-append-replicate left n 0 ∙ ap (λ (k : ℕ). replicate k 0) more-left)
+
+  longer-runs : runsOf used (ts ++ replicate n 0) ≡ runsOf used ts
+  longer-runs = ap₂ runsOf (sym (runs-length used ts)) longer-is ∙ table-runs (length ts + n) (runsOf used ts)
+
+  longer-zeros : zeros (drop (3 * used) (ts ++ replicate n 0)) ≡ true
+  unfolding tableOf
+  longer-zeros =
+      let rs = runsOf used ts in
+      let left : ℕ = length ts + n - 3 * length rs in
+      ap (λ vs. zeros (drop (3 * used) vs)) longer-is ∙
+      ap zeros (drop-at (runWords rs) (replicate left 0) (3 * used) (words-length rs ∙ ap (λ (k : ℕ). 3 * k) (runs-length used ts))) ∙
+      are-zeros left
+
+  longer-shaped : shaped used (ts ++ replicate n 0) ≡ true
+  longer-shaped =
+      ap₂ _&&_
+      (ap₂ _&&_
+      (le-leb used (length (ts ++ replicate n 0) / 3) (omega (arith, length-append ts (replicate n 0), used-fits used ts s)))
+      (ap runsShaped longer-runs ∙ runs-shaped used ts s))
+      longer-zeros
+
+grown-agreed : (ws ts : List ℕ) (n : ℕ) → agreed ws ts ≡ true →
+    (agreed ws (ts ++ replicate n 0) ≡ true) × (kept (recordOf ws) (ts ++ replicate n 0) ≡ kept (recordOf ws) ts)
+unfolding agrees
+grown-agreed ws ts n a =
+    let rec = recordOf ws in
+    let s = agree-shaped rec ts a in
+    let same = ap referencesOf (longer-runs (rec .used) ts n s) in
+    (ap₂ (λ t rs. recordHeld rec && t && keptRight rec rs) (longer-shaped (rec .used) ts n s ∙ sym s) same ∙ a, same)
+
 pub binding : Binding
 binding =
     record {
@@ -206,4 +256,5 @@ binding =
       wide-number = wide-told;
       wide-number-at = wide-told-at;
       full-tick = full-told;
+      grown = grown-agreed;
     }

@@ -1,16 +1,17 @@
 -- What a binding of another language may rely on, so that each of its timelines agrees. An accepted call that changes, and an accepted reading,
 -- leave a record and a table that agree. Whether words agree is told by a call that only looks: asked for the runs that touch tick 0, it is
--- refused for disagreement and for nothing else; so is a call for the full tick of a stamp. And a number that is wider than a reference's
--- can be is not kept, nor at any clock within the limit.
+-- refused for disagreement and for nothing else; so is a call for the full tick of a stamp. A number that is wider than a reference's
+-- can be is not kept, nor at any clock within the limit. And a table may be given more room: zeros behind it change no agreement that
+-- there is, nor what is kept.
 -- Paper: Record and table; Refusal numbers, 2 and 13.
 use Prim.Native.Nat.{ℕ, _≤_, _<_}
 use mathlib.Core.Path.{_≡_}
 use mathlib.Core.Bool.{Bool, true, cond}
-use mathlib.Core.List.{List}
+use mathlib.Core.List.{List, _++_}
 use lib.IntN.{ℤ}
-use lib.ListN.{length}
+use lib.ListN.{length, replicate}
 use Rattle.units.specs.Limits.{largestSpan, largestMillis, largestNumber}
-use Rattle.agreement.specs.Agreement.{agrees}
+use Rattle.agreement.specs.Agreement.{kept, agrees}
 use Rattle.flonterri.specs.Words.{recordWords, recordOf}
 use Rattle.flonterri.specs.Face.{Changes, opens, appends, appendsStamp, trims, tellsTouching, tellsAvailability, reads, tellsAvailable, tellsFullTick}
 
@@ -44,3 +45,6 @@ pub record Binding : Type 0 where
   -- the full tick of a stamp: 0 where record and table agree, whether there is one or not, else 2
   pub full-tick : (ws ts : List ℕ) (stamp : ℕ) (out : List ℕ) → length ws ≡ recordWords → length out ≡ 2 →
       tellsFullTick ws ts stamp out .number ≡ cond (agreed ws ts) 0 2
+  -- more room: agreeing words agree with zeros behind the table, and keep the same references
+  pub grown : (ws ts : List ℕ) (n : ℕ) → agreed ws ts ≡ true →
+      (agreed ws (ts ++ replicate n 0) ≡ true) × (kept (recordOf ws) (ts ++ replicate n 0) ≡ kept (recordOf ws) ts)
