@@ -14,7 +14,6 @@ use Rattle.units.specs.Limits.{largestSpan, tickOf}
 use Rattle.window.specs.declared.Head.{Head}
 use Rattle.window.specs.Limits.{headHeld, headOf}
 use Rattle.window.specs.Place.{endKnown, beforeEnd}
-use Rattle.runs.specs.Encoding.{canonical}
 use Rattle.runs.proofs.Tables.{canonical-length}
 use Rattle.agreement.specs.declared.Record.{Record}
 use Rattle.agreement.specs.declared.refusal.Refusal.{Refusal}
@@ -22,7 +21,7 @@ use Rattle.agreement.specs.declared.refusal.Refusal.the-variants as refusal
 use Rattle.agreement.specs.Agreement.{agrees}
 use Rattle.keeping.specs.declared.Outcome.{Outcome}
 use Rattle.keeping.specs.declared.Outcome.the-variants as outcome
-use Rattle.keeping.specs.Keeping.{wordsBy}
+use Rattle.keeping.specs.Keeping.{wordsKeeping, wordsBy}
 use Rattle.keeping.specs.Append.{unspentOf, fitOutcome, appended}
 use Rattle.keeping.proofs.Outcomes.{refused-not}
 use Rattle.timeline.specs.Opening.{freshRecord, openOutcome}
@@ -125,8 +124,8 @@ module _ (words : ℕ) (r : Reading) (ws : List ℕ) (long : length ws ≡ words
   running-few h = omega (arith, running-lines r ws h .1)
 
   appended-running : (d n : ℕ) (st : Standing) (s : Stage) → Running r ws → d ≤ largestSpan → appendOutcome (r .rec) ws st d n ≡ outcome.Accepted →
-      Running (record { stage = s; lines = r .lines + 1; rec = appended (r .rec) ws d n }) (canonical (length ws) (unspentOf (r .rec) ws d n)) ×
-      (length (canonical (length ws) (unspentOf (r .rec) ws d n)) ≡ words)
+      Running (record { stage = s; lines = r .lines + 1; rec = appended (r .rec) ws d n }) (wordsKeeping ws (unspentOf (r .rec) ws d n)) ×
+      (length (wordsKeeping ws (unspentOf (r .rec) ws d n)) ≡ words)
   appended-running d n st s h small o = (
     record {
       agreed = accepted-keeps (r .rec) ws st d n small o;

@@ -2,9 +2,8 @@
 -- (the rows of Refusals, and for a file those of Lines). A refused call returns the record as it came and changes no word and no byte,
 -- with these exceptions. A refused opening answers a zero record. A refused reading answers a zero record and the line, and zeroes the
 -- table. The part that a span lookup hands back is empty. A verdict, an availability, a full tick and a covered edge give their number
--- and nothing else. Of each
--- function this is said over the contract that the check itself makes of it (Unique says what its parts are, and has the functions that
--- never refuse). For C the lengths of record and out are judged first.
+-- and nothing else. Of each function this is said over the contract that the check itself makes of it (Unique says what its parts are,
+-- and has the functions that never refuse). For C the lengths of record and out are judged first.
 -- Paper: Refusal numbers; What a statement must leave no room for.
 use Prim.Native.Nat.{ℕ, _≤_}
 use mathlib.Core.Path.{_≡_}
