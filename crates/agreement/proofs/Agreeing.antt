@@ -15,7 +15,7 @@ use Rattle.runs.specs.declared.Run.{Run}
 use Rattle.runs.specs.Words.{runsOf, referencesOf}
 use Rattle.runs.specs.Shape.{runsShaped, zeros, shaped}
 use Rattle.runs.specs.Ends.{lastEnd, Within}
-use Rattle.runs.proofs.EndToStart.{references-join, references-within}
+use Rattle.runs.proofs.EndToStart.{references-join, references-within, kept-within}
 use Rattle.agreement.specs.declared.Record.{Record}
 use Rattle.agreement.specs.declared.Found.{Found}
 use Rattle.agreement.specs.declared.Found.the-variants.{Unshaped}
@@ -102,6 +102,9 @@ module _ (rec : Record) (ws : List ℕ) (a : agrees rec ws ≡ true) where
 
   pub agree-shaped : shaped (rec .used) ws ≡ true
   agree-shaped = and-eq-true-iff (recordHeld rec) (shaped (rec .used) ws) .0 (parts .0) .1
+
+  pub agree-within : Each Within (kept rec ws)
+  agree-within = kept-within (rec .used) ws agree-shaped
 
   agree-kept : keptRight rec (kept rec ws) ≡ true
   agree-kept = parts .1

@@ -6,17 +6,15 @@ use mathlib.Core.List.{List, []}
 use Prim.Native.Nat.{ℕ, _<_}
 use native.Mathlib.Omega.{arith}
 use lib.ListN.{length, getD}
-use Rattle.window.specs.References.{Each}
 use Rattle.window.specs.Window.{Stretch}
 use Rattle.window.specs.declared.Needed.{Needed}
 use Rattle.window.specs.Ticks.{named, NeededTicks}
 use Rattle.runs.specs.Words.{runsOf, referencesOf, keptIn}
-use Rattle.runs.specs.Ends.{Within}
-use Rattle.runs.proofs.EndToStart.{kept-join, kept-within, kept-end}
+use Rattle.runs.proofs.EndToStart.{kept-join, kept-end}
 use Rattle.runs.proofs.Tables.{used-words}
 use Rattle.agreement.specs.declared.Record.{Record}
 use Rattle.agreement.specs.Agreement.{agrees, kept}
-use Rattle.agreement.proofs.Agreeing.{agree-shaped, agreeing}
+use Rattle.agreement.proofs.Agreeing.{agree-shaped, agree-within, agreeing}
 use Rattle.answers.specs.declared.Verdict.{Verdict}
 use Rattle.answers.specs.Cover.{coveredBy}
 use Rattle.answers.specs.Judgement.{verdictOf}
@@ -25,9 +23,6 @@ use Rattle.answers.proofs.Covering.{reach-cover}
 use Rattle.answers.proofs.Judging.{verdict-ranges}
 
 module _ (rec : Record) (ws : List ℕ) (a : agrees rec ws ≡ true) where
-  pub agreed-within : Each Within (kept rec ws)
-  agreed-within = kept-within (rec .used) ws (agree-shaped rec ws a)
-
   pub none-reach : rec .used ≡ 0 → Reach (rec .next .0) (rec .next .0) (kept rec ws)
   unfolding runsOf referencesOf
   none-reach e =
@@ -48,9 +43,9 @@ module _ (rec : Record) (ws : List ℕ) (a : agrees rec ws ≡ true) where
 
   -- THE LAW: kept references cover one range, up to the next tick
   pub kept-cover : (from : ℕ) → Reach from (rec .next .0) (kept rec ws) → (k : ℕ) → coveredBy (kept rec ws) k ≡ inRange from (rec .next .0) k
-  kept-cover from r = reach-cover from (rec .next .0) (kept rec ws) r agreed-within
+  kept-cover from r = reach-cover from (rec .next .0) (kept rec ws) r (agree-within rec ws a)
 
   -- the verdict that the code finds is the one of the kept references
   pub agreed-verdict : (w : Stretch) (x : Needed) (from : ℕ) (v : Verdict) → NeededTicks (rec .head) w x → Reach from (rec .next .0) (kept rec ws) →
       v ≡ verdictBy (named x) (inRange from (rec .next .0)) (pastNamed x) → v ≡ verdictOf (rec .head) w (kept rec ws)
-  agreed-verdict w x from v n r e = e ∙ verdict-ranges (rec .head) w (kept rec ws) x from (rec .next .0) n r agreed-within
+  agreed-verdict w x from v n r e = e ∙ verdict-ranges (rec .head) w (kept rec ws) x from (rec .next .0) n r (agree-within rec ws a)

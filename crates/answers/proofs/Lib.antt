@@ -5,9 +5,5 @@ pub mod Cases
 pub mod Judging
 pub mod Agreed
 pub mod Percents
-pub mod Numbering
-pub mod Offering
-pub mod Spanning
-pub mod Exact
 pub mod Completeness
 pub mod Edging

@@ -2,10 +2,6 @@ pub mod Cover
 pub mod Counts
 pub mod Judgement
 pub mod Shares
-pub mod Available
-pub mod Spans
 pub mod Edge
 pub mod Numbers
 pub mod Ranges
-pub mod Steps
-pub mod Stamps

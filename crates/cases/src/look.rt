@@ -2,11 +2,11 @@
 // the words of the answer.
 use crate::show::put;
 use agreement::Record;
-use answers::Availability;
-use answers::AvailableAt;
-use answers::Touching;
 use answers::Verdict;
 use libc::STDOUT_FILENO;
+use lookups::Availability;
+use lookups::AvailableAt;
+use lookups::Touching;
 use units::WideMillis;
 use units::WideNumber;
 use units::WideTick;
@@ -51,8 +51,8 @@ fn put_touching(touching: Touching, words: usize) {
 }
 
 fn touch(rec: Record, table: &[u64], a: WideTick, b: WideTick) {
-    let part = answers::spans::touching(rec, table, a, b);
-    put_touching(answers::spans::touching_words(rec, table, a, b), part.len());
+    let part = lookups::spans::touching(rec, table, a, b);
+    put_touching(lookups::spans::touching_words(rec, table, a, b), part.len());
 }
 
 fn put_available(available: AvailableAt) {
@@ -70,9 +70,9 @@ pub(crate) fn look(name: u8, rec: Record, table: &[u64], a: u64, b: u64) {
     match name {
         b'v' => put_verdict(answers::verdicts::verdict(rec, table, WideMillis(a))),
         b'w' => put_verdict(answers::verdicts::verdict_whole(rec, table)),
-        b'n' => put_availability(answers::times::availability(rec, table, WideNumber(a))),
+        b'n' => put_availability(lookups::times::availability(rec, table, WideNumber(a))),
         b'r' => touch(rec, table, WideTick(a), WideTick(b)),
-        _ => put_available(answers::times::available_at(rec, table, WideNumber(a), WideMillis(b))),
+        _ => put_available(lookups::times::available_at(rec, table, WideNumber(a), WideMillis(b))),
     }
     io::write_all(STDOUT_FILENO, b"\n");
 }

@@ -7,6 +7,7 @@ pub mod Cuts
 pub mod SoFar
 pub mod Cutting
 pub mod Sounding
+pub mod Accepted
 pub mod Belonging
 pub mod Turning
 pub mod Stopping
@@ -14,8 +15,3 @@ pub mod Pieces
 pub mod Settling
 pub mod Never
 pub mod Clocks
-pub mod Output
-pub mod Whole
-pub mod Again
-pub mod Back
-pub mod Stable

@@ -5,5 +5,4 @@ pub mod Judging
 pub mod Feeding
 pub mod Settled
 pub mod Sound
-pub mod Writing
 pub mod Worked

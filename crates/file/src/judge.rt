@@ -7,7 +7,6 @@ ghost use Rattle.units.specs.Limits.{largestSpan, spanHeld};
 ghost use Rattle.file.specs.Judging.{File, settledReading, misplaced, firstTick, laterStanding, reachesBy, takeS, takeEnd, onNothing, onHeaded, onOpen, onFilled, takeLine};
 ghost use Rattle.file.specs.Feeding.{mostLines};
 ghost use Rattle.file.specs.Sound.{Running, Begins, Narrow, Sound};
-use crate::ABSENT;
 use crate::Reading;
 use crate::Stage;
 use agreement::Record;
@@ -66,7 +65,7 @@ fn misplaced(frame: Frame) -> Refusal
 fn first_tick(t: WideTick) -> WideTick
     ensures { λ r. ⌜ r ≡ firstTick t ⌝ }
 {
-    if t.0 == ABSENT {
+    if t.0 == SFields::ABSENT {
         return WideTick(0);
     }
     t
@@ -75,7 +74,7 @@ fn first_tick(t: WideTick) -> WideTick
 fn later_standing(t: WideTick, next: Tick) -> Standing
     ensures { λ r. ⌜ r ≡ laterStanding t next ⌝ }
 {
-    if t.0 == ABSENT {
+    if t.0 == SFields::ABSENT {
         return Standing::Joins;
     }
     t.against(next)

@@ -1,7 +1,4 @@
-// The whole file: read into a table as opening plus appends, at once or piece by piece, and written
-// from what a record and a table keep.
-ghost use mathlib.Core.Path.{_≡_};
-ghost use Rattle.file.specs.Writing.{writeNumber};
+// A file read into a table, as opening plus appends, at once or piece by piece.
 use agreement::Record;
 use agreement::Refusal;
 use keeping::Outcome;
@@ -9,7 +6,6 @@ use keeping::Outcome;
 mod feeding;
 mod judge;
 mod lines;
-mod writing;
 
 pub use feeding::begin;
 pub use feeding::feed;
@@ -17,10 +13,6 @@ pub use feeding::finish;
 pub use feeding::read;
 pub use feeding::settled;
 pub use lines::line_end;
-pub use writing::write;
-
-// A t of all ones is absent.
-pub(crate) const ABSENT: u64 = 18_446_744_073_709_551_615;
 
 // Which line may come next: the head, an S line, an S line or the end, the end alone after a negative
 // r, nothing more; or no line matters, since one was refused.
@@ -59,22 +51,4 @@ pub struct ReadAnswer {
     pub outcome: Outcome,
     pub rec: Record,
     pub line: u64,
-}
-
-// The length written, or why nothing was.
-pub enum WriteAnswer {
-    Written(usize),
-    Refused(Refusal),
-}
-
-impl WriteAnswer {
-    // The paper's number, 0 where the file is written.
-    pub fn number(self) -> u32
-        ensures { λ r. ⌜ r ≡ writeNumber self ⌝ }
-    {
-        match self {
-            WriteAnswer::Written(_) => 0,
-            WriteAnswer::Refused(why) => why.number(),
-        }
-    }
 }

@@ -1,9 +1,9 @@
 // What a reading came to and what a writing gives, printed.
 use agreement::Record;
 use file::ReadAnswer;
-use file::WriteAnswer;
 use keeping::Outcome;
 use libc::STDOUT_FILENO;
+use writing::WriteAnswer;
 
 fn put(text: &[u8], n: u64) {
     io::write_all(STDOUT_FILENO, text);
@@ -40,7 +40,7 @@ pub(crate) fn put_answer(answer: ReadAnswer, table: &[u64]) {
 // The file of what is kept, or why there is none.
 pub(crate) fn put_file(rec: Record, table: &[u64]) {
     let mut out = [0u8; 256];
-    let written = file::write(rec, table, &mut out);
+    let written = writing::write(rec, table, &mut out);
     match written {
         WriteAnswer::Written(length) => {
             io::write_all(STDOUT_FILENO, &out[..length]);

@@ -35,20 +35,20 @@ use Rattle.timeline.specs.Opening.{openOutcome}
 use Rattle.timeline.specs.Appending.{appendOutcome}
 use Rattle.timeline.specs.Trimming.{trimOutcome}
 use Rattle.timeline.proofs.Kept.{open-agrees, trim-keeps, accepted-keeps}
-use Rattle.answers.specs.declared.Numbered.the-variants.{Missing}
-use Rattle.answers.specs.declared.Availability.the-variants as availability
-use Rattle.answers.specs.Available.{numbered, keptNumber, numberAvailability, availabilityIn, numberAvailable, availableIn}
-use Rattle.answers.specs.declared.AvailableAt.the-variants as at
-use Rattle.answers.specs.declared.stamps.FullTick.the-variants as full
-use Rattle.answers.specs.Numbers.{availableNumber, fullTickNumber}
-use Rattle.answers.specs.Stamps.{foundTick, fullTickIn}
-use Rattle.answers.specs.declared.Touching.{Touching}
-use Rattle.answers.specs.declared.Touching.the-variants as touching
-use Rattle.answers.specs.Spans.{touches, beforeFirst, uptoLast, touchingWords}
-use Rattle.answers.proofs.Numbering.{after}
+use Rattle.lookups.specs.declared.Numbered.the-variants.{Missing}
+use Rattle.lookups.specs.declared.Availability.the-variants as availability
+use Rattle.lookups.specs.Available.{numbered, keptNumber, numberAvailability, availabilityIn, numberAvailable, availableIn}
+use Rattle.lookups.specs.declared.AvailableAt.the-variants as at
+use Rattle.lookups.specs.declared.stamps.FullTick.the-variants as full
+use Rattle.lookups.specs.Numbers.{availableNumber, fullTickNumber}
+use Rattle.lookups.specs.Stamps.{foundTick, fullTickIn}
+use Rattle.lookups.specs.declared.Touching.{Touching}
+use Rattle.lookups.specs.declared.Touching.the-variants as touching
+use Rattle.lookups.specs.Spans.{touches, beforeFirst, uptoLast, touchingWords}
+use Rattle.lookups.proofs.Numbering.{after}
 use Rattle.file.specs.declared.Reading.{Reading}
 use Rattle.file.specs.Judging.{readOutcome, readAnswer, readTable, answeredBy, readLines}
-use Rattle.file.proofs.Stable.{read-agrees}
+use Rattle.file.proofs.Accepted.{read-agrees}
 use Rattle.flonterri.specs.Words.{recordWords, recordOf, wordsOf, headWith}
 use Rattle.flonterri.specs.Tells.{Tells, availabilityTells, touchingTells, availableTells, fullTickTells}
 use Rattle.flonterri.specs.Face.{wrongRecord, wrongLength, guarded, Changes, changes, opens, appendsBy, appends, appendsStamp, trims, tells, tellsTouching, tellsAvailability, Reads, readsBy, reads}

@@ -10,7 +10,7 @@ use Rattle.keeping.specs.declared.Changed.{Changed}
 use Rattle.keeping.specs.Keeping.{outcomeNumber}
 use Rattle.timeline.specs.Appending.{appendAnswer, appendTable}
 use Rattle.file.specs.declared.ReadAnswer.{ReadAnswer}
-use Rattle.file.specs.declared.WriteAnswer.{WriteAnswer}
+use Rattle.writing.specs.declared.WriteAnswer.{WriteAnswer}
 use Rattle.flonterri.specs.Words.{recordOf, wordsOf}
 use Rattle.flonterri.specs.Tells.{Tells, writeTells}
 use Rattle.flonterri.specs.Face.{wrongRecord, wrongLength, Changes, changes, appendsStamp, tells, Reads, readsBy, Writes, writesBy}

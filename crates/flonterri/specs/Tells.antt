@@ -5,21 +5,22 @@ use mathlib.Core.List.{List, [], _∷_}
 use lib.IntN.{ℤ, pos}
 use Rattle.answers.specs.declared.Verdict.{Verdict}
 use Rattle.answers.specs.declared.Verdict.the-variants as verdict
-use Rattle.answers.specs.declared.Availability.{Availability}
-use Rattle.answers.specs.declared.Availability.the-variants as availability
-use Rattle.answers.specs.declared.AvailableAt.{AvailableAt}
-use Rattle.answers.specs.declared.AvailableAt.the-variants as at
-use Rattle.answers.specs.declared.stamps.FullTick.{FullTick}
-use Rattle.answers.specs.declared.stamps.FullTick.the-variants as full
-use Rattle.answers.specs.declared.Touching.{Touching}
-use Rattle.answers.specs.declared.Touching.the-variants as touching
-use Rattle.answers.specs.Numbers.{verdictNumber, availabilityNumber, touchingNumber, availableNumber, edgeNumber, fullTickNumber}
+use Rattle.lookups.specs.declared.Availability.{Availability}
+use Rattle.lookups.specs.declared.Availability.the-variants as availability
+use Rattle.lookups.specs.declared.AvailableAt.{AvailableAt}
+use Rattle.lookups.specs.declared.AvailableAt.the-variants as at
+use Rattle.lookups.specs.declared.stamps.FullTick.{FullTick}
+use Rattle.lookups.specs.declared.stamps.FullTick.the-variants as full
+use Rattle.lookups.specs.declared.Touching.{Touching}
+use Rattle.lookups.specs.declared.Touching.the-variants as touching
+use Rattle.answers.specs.Numbers.{verdictNumber, edgeNumber}
+use Rattle.lookups.specs.Numbers.{availabilityNumber, touchingNumber, availableNumber, fullTickNumber}
 use Rattle.answers.specs.declared.CoveredEdge.{CoveredEdge}
 use Rattle.answers.specs.declared.CoveredEdge.the-variants as edge
 use Rattle.answers.specs.Shares.{verdictPercent, percentNumber}
-use Rattle.file.specs.declared.WriteAnswer.{WriteAnswer}
-use Rattle.file.specs.declared.WriteAnswer.the-variants as written
-use Rattle.file.specs.Writing.{writeNumber}
+use Rattle.writing.specs.declared.WriteAnswer.{WriteAnswer}
+use Rattle.writing.specs.declared.WriteAnswer.the-variants as written
+use Rattle.writing.specs.Writing.{writeNumber}
 
 -- the number, and the words of out
 pub record Tells (A : Type 0) : Type 0 where

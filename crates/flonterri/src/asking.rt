@@ -2,16 +2,16 @@
 // What is told goes into the caller's `out`, which a refused call leaves as it came.
 ghost use mathlib.Core.Path.{_≡_};
 ghost use lib.ListN.{length};
-ghost use Rattle.answers.specs.Numbers.{availableNumber, fullTickNumber};
+ghost use Rattle.lookups.specs.Numbers.{availableNumber, fullTickNumber};
 ghost use Rattle.flonterri.specs.Tells.{availableOut, fullTickOut};
 ghost use Rattle.flonterri.specs.Face.{tellsAvailable, tellsFullTick};
 use crate::looking::put_two;
 use crate::packing::record_of;
 use crate::packing::wrong_length;
-use answers::AvailableAt;
-use answers::FullTick;
-use answers::stamps;
-use answers::times;
+use lookups::AvailableAt;
+use lookups::FullTick;
+use lookups::stamps;
+use lookups::times;
 use units::Stamp;
 use units::WideMillis;
 use units::WideNumber;

@@ -3,14 +3,14 @@ ghost use mathlib.Core.Path.{_≡_};
 ghost use lib.ListN.{length, set};
 ghost use Rattle.keeping.specs.Keeping.{outcomeNumber};
 ghost use Rattle.flonterri.specs.Words.{wordsOf};
-ghost use Rattle.file.specs.Writing.{writeNumber};
+ghost use Rattle.writing.specs.Writing.{writeNumber};
 ghost use Rattle.flonterri.specs.Tells.{writeOut};
 ghost use Rattle.flonterri.specs.Face.{reads, writes};
 use crate::packing::put_record;
 use crate::packing::record_of;
 use crate::packing::wrong_length;
 use file::ReadAnswer;
-use file::WriteAnswer;
+use writing::WriteAnswer;
 
 const LINE_WORDS: usize = 1;
 
@@ -88,6 +88,6 @@ pub extern "C" fn flonterri_write(
     if wrong != 0 {
         return wrong;
     }
-    let answer = file::write(record_of(record), table, bytes);
+    let answer = writing::write(record_of(record), table, bytes);
     tell_written(out, answer)
 }

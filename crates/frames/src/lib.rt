@@ -19,6 +19,11 @@ pub struct SFields {
     pub r: u64,
 }
 
+impl SFields {
+    // A t of all ones is absent.
+    pub const ABSENT: u64 = 18_446_744_073_709_551_615;
+}
+
 // A frame by its kind, or the mark of a line that is none. Its fields are any that its widths hold.
 pub enum Frame {
     Head(HeadFields),

@@ -18,28 +18,29 @@ use Rattle.keeping.specs.Keeping.{outcomeNumber, changedBy, wordsBy}
 use Rattle.timeline.specs.Opening.{zeroRecord}
 use Rattle.answers.specs.declared.Verdict.{Verdict}
 use Rattle.answers.specs.declared.Verdict.the-variants as verdict
-use Rattle.answers.specs.declared.Availability.{Availability}
-use Rattle.answers.specs.declared.Availability.the-variants as availability
-use Rattle.answers.specs.declared.AvailableAt.{AvailableAt}
-use Rattle.answers.specs.declared.AvailableAt.the-variants as at
-use Rattle.answers.specs.declared.stamps.FullTick.{FullTick}
-use Rattle.answers.specs.declared.stamps.FullTick.the-variants as full
-use Rattle.answers.specs.declared.Touching.{Touching}
-use Rattle.answers.specs.declared.Touching.the-variants as touching
+use Rattle.lookups.specs.declared.Availability.{Availability}
+use Rattle.lookups.specs.declared.Availability.the-variants as availability
+use Rattle.lookups.specs.declared.AvailableAt.{AvailableAt}
+use Rattle.lookups.specs.declared.AvailableAt.the-variants as at
+use Rattle.lookups.specs.declared.stamps.FullTick.{FullTick}
+use Rattle.lookups.specs.declared.stamps.FullTick.the-variants as full
+use Rattle.lookups.specs.declared.Touching.{Touching}
+use Rattle.lookups.specs.declared.Touching.the-variants as touching
 use Rattle.answers.specs.declared.CoveredEdge.{CoveredEdge}
 use Rattle.answers.specs.declared.CoveredEdge.the-variants as edge
-use Rattle.answers.specs.Numbers.{verdictNumber, availabilityNumber, availableNumber, touchingNumber, edgeNumber, fullTickNumber}
-use Rattle.answers.specs.Spans.{partOf}
+use Rattle.answers.specs.Numbers.{verdictNumber, edgeNumber}
+use Rattle.lookups.specs.Numbers.{availabilityNumber, availableNumber, touchingNumber, fullTickNumber}
+use Rattle.lookups.specs.Spans.{partOf}
 use Rattle.file.specs.declared.Reader.{Reader}
 use Rattle.file.specs.declared.Reading.{Reading}
 use Rattle.file.specs.declared.ReadAnswer.{ReadAnswer}
-use Rattle.file.specs.declared.WriteAnswer.{WriteAnswer}
-use Rattle.file.specs.declared.WriteAnswer.the-variants as written
+use Rattle.writing.specs.declared.WriteAnswer.{WriteAnswer}
+use Rattle.writing.specs.declared.WriteAnswer.the-variants as written
 use Rattle.file.specs.Lines.{restFrom}
 use Rattle.file.specs.Judging.{readLines, readOutcome, answeredBy, readAnswer, readTable, zeroed}
 use Rattle.file.specs.SoFar.{soFar, firstBytes}
 use Rattle.file.specs.Feeding.{belongs, fedFile, fedReader, fedTable, finishOutcome, finishAnswer, finishTable}
-use Rattle.file.specs.Writing.{writeNumber, outputBy}
+use Rattle.writing.specs.Writing.{writeNumber, outputBy}
 use Rattle.flonterri.specs.Words.{recordWords, wordsOf}
 use Rattle.flonterri.specs.Tells.{Tells, verdictTells, availabilityTells, touchingTells, edgeTells, writeTells, availableTells, fullTickTells}
 use Rattle.flonterri.specs.Face.{wrongRecord, wrongLength, guarded, changes, tells, readsBy, reads, writesBy, Changes as Seen, Reads as Readings, Writes as Wrote}

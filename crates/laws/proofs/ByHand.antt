@@ -32,8 +32,8 @@ use Rattle.timeline.specs.Appending.{appendOutcome}
 use Rattle.timeline.specs.Trimming.{trimOutcome}
 use Rattle.answers.specs.declared.Verdict.{Verdict}
 use Rattle.answers.specs.declared.Verdict.the-variants.{Nothing, Complete, Lacking, Refused}
-use Rattle.answers.specs.declared.Availability.the-variants as answer
-use Rattle.answers.specs.Available.{numbered, keptNumber, numberAvailability, availabilityIn}
+use Rattle.lookups.specs.declared.Availability.the-variants as answer
+use Rattle.lookups.specs.Available.{numbered, keptNumber, numberAvailability, availabilityIn}
 use Rattle.answers.specs.Judgement.{verdictOf, verdictAt, verdictWhole}
 use Rattle.answers.specs.Shares.{verdictPercent}
 use Rattle.answers.specs.Ranges.{inRange, verdictBy, pastNamed}
@@ -43,13 +43,13 @@ use Rattle.hex.specs.Digits as hex
 use Rattle.frames.specs.Fields as fields
 use Rattle.frames.specs.Frames as frames
 use Rattle.hex.specs.Ascii.{ascii}
-use Rattle.file.specs.declared.WriteAnswer.the-variants.{Written, Refused as NotWritten}
+use Rattle.writing.specs.declared.WriteAnswer.the-variants.{Written, Refused as NotWritten}
 use Rattle.file.specs.Lines.{linesFrom, restFrom}
 use Rattle.file.specs.Least.{leastFrom, leastCount}
 use Rattle.file.specs.Judging as judging
 use Rattle.file.specs.Judging.{readAnswer, readTable}
-use Rattle.file.specs.Writing as writing
-use Rattle.file.specs.Writing.{fileFor, writeAnswer, writeNumber, outputBy}
+use Rattle.writing.specs.Writing as writing
+use Rattle.writing.specs.Writing.{fileFor, writeAnswer, writeNumber, outputBy}
 use Rattle.laws.specs.Calls.{State}
 use Rattle.laws.specs.ByHand.{ByHand, wide, millis, number, headA, headB, headD, appending, appendOf, trimming, trimOf, bothA, fiveB, trimB1, trimB2, trimB3, headLineB, fileB, oneD, twoD, fileD, stateOf}
 use Rattle.laws.specs.Demand2.{output}

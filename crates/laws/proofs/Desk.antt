@@ -32,7 +32,7 @@ use Rattle.file.specs.declared.ReadAnswer.{ReadAnswer}
 use Rattle.file.specs.Lines.{lineFeed, hasFeed, firstLine, behindFirst}
 use Rattle.file.specs.Judging.{readLines, readOutcome, answeredBy, readAnswer, readTable}
 use Rattle.file.proofs.Clocks.{read-clock}
-use Rattle.file.proofs.Stable.{read-agrees}
+use Rattle.file.proofs.Accepted.{read-agrees}
 use Rattle.report.specs.declared.ClockLine.{ClockLine}
 use Rattle.report.specs.declared.ClockLine.the-variants as asked
 use Rattle.report.specs.declared.Reply.the-variants as reply

@@ -20,8 +20,8 @@ use Rattle.file.specs.declared.Reading.{Reading as Read}
 use Rattle.file.specs.declared.ReadAnswer.{ReadAnswer}
 use Rattle.file.specs.Lines.{linesOf, restOf}
 use Rattle.file.specs.Judging.{readLines, readOutcome, answeredBy, readAnswer, readTable}
-use Rattle.file.specs.Writing.{bytesOf}
-use Rattle.file.proofs.Back.{rest-of-frames}
+use Rattle.writing.specs.Writing.{bytesOf}
+use Rattle.writing.proofs.Back.{rest-of-frames}
 use Rattle.file.proofs.Never.{never-disagrees}
 use Rattle.file.proofs.Places.{narrow}
 use Rattle.laws.specs.Calls.{Call, Plain, State, after, afterCalls, allAccepted, clockOf, greatest}

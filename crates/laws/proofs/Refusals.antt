@@ -26,25 +26,26 @@ use Rattle.agreement.proofs.Agreeing.{agreeing}
 use Rattle.keeping.specs.declared.Outcome.the-variants.{Refused}
 use Rattle.answers.specs.declared.Verdict.{Verdict}
 use Rattle.answers.specs.declared.Verdict.the-variants as verdict
-use Rattle.answers.specs.declared.Availability.the-variants as availability
-use Rattle.answers.specs.declared.AvailableAt.the-variants as at
-use Rattle.answers.specs.declared.stamps.FullTick.the-variants as full
-use Rattle.answers.specs.Stamps.{foundTick, fullTickIn}
-use Rattle.answers.specs.declared.Touching.{Touching}
-use Rattle.answers.specs.declared.Touching.the-variants as touching
-use Rattle.answers.specs.declared.Numbered.{Numbered}
-use Rattle.answers.specs.declared.Numbered.the-variants.{Kept, Missing}
+use Rattle.lookups.specs.declared.Availability.the-variants as availability
+use Rattle.lookups.specs.declared.AvailableAt.the-variants as at
+use Rattle.lookups.specs.declared.stamps.FullTick.the-variants as full
+use Rattle.lookups.specs.Stamps.{foundTick, fullTickIn}
+use Rattle.lookups.specs.declared.Touching.{Touching}
+use Rattle.lookups.specs.declared.Touching.the-variants as touching
+use Rattle.lookups.specs.declared.Numbered.{Numbered}
+use Rattle.lookups.specs.declared.Numbered.the-variants.{Kept, Missing}
 use Rattle.answers.specs.Counts.{neededCount, coveredCount, lowestLacking}
 use Rattle.answers.specs.Judgement.{verdictOf, verdictAt, verdictWhole}
-use Rattle.answers.specs.Available.{numbered, keptNumber, availableFrom, availableUpto, availabilityOf, available, numberAvailability, numberAvailable, availabilityIn, availableIn}
-use Rattle.answers.specs.Spans.{touches, beforeFirst, uptoLast, touchedWords, touchingWords}
+use Rattle.lookups.specs.Available.{numbered, keptNumber, availableFrom, availableUpto, availabilityOf, available, numberAvailability, numberAvailable, availabilityIn, availableIn}
+use Rattle.lookups.specs.Spans.{touches, beforeFirst, uptoLast, touchedWords, touchingWords}
 use Rattle.answers.specs.declared.CoveredEdge.{CoveredEdge}
 use Rattle.answers.specs.declared.CoveredEdge.the-variants as edge
 use Rattle.answers.specs.Edge.{atOrBefore, edgeOf, coveredEdge}
-use Rattle.answers.specs.Numbers.{verdictNumber, availabilityNumber, availableNumber, touchingNumber, edgeNumber, fullTickNumber}
+use Rattle.answers.specs.Numbers.{verdictNumber, edgeNumber}
+use Rattle.lookups.specs.Numbers.{availabilityNumber, availableNumber, touchingNumber, fullTickNumber}
 use Rattle.answers.proofs.Edging.{Latest, latest-right}
-use Rattle.file.specs.declared.WriteAnswer.the-variants as written
-use Rattle.file.specs.Writing.{fileFor, writeAnswer, writeNumber}
+use Rattle.writing.specs.declared.WriteAnswer.the-variants as written
+use Rattle.writing.specs.Writing.{fileFor, writeAnswer, writeNumber}
 use Rattle.laws.specs.Refusals.{lowest, some, notKept, Refusals, verdictRows, wholeRows, availabilityRows, availableRows, touchingRows, writeRows, fullTickRows, edgeRows}
 use Rattle.laws.proofs.Rows.{over, under, none}
 use Rattle.laws.proofs.Changing.{opening, trim, append, append-stamp}

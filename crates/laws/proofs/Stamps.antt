@@ -25,9 +25,9 @@ use Rattle.runs.specs.Ends.{lastEnd}
 use Rattle.agreement.specs.Agreement.{every, agrees}
 use Rattle.keeping.specs.Keeping.{changedBy, wordsBy}
 use Rattle.timeline.specs.Opening.{openOutcome}
-use Rattle.answers.specs.declared.stamps.FullTick.{FullTick}
-use Rattle.answers.specs.declared.stamps.FullTick.the-variants.{At, Nowhere, Refused}
-use Rattle.answers.specs.Stamps.{foundTick, fullTickIn}
+use Rattle.lookups.specs.declared.stamps.FullTick.{FullTick}
+use Rattle.lookups.specs.declared.stamps.FullTick.the-variants.{At, Nowhere, Refused}
+use Rattle.lookups.specs.Stamps.{foundTick, fullTickIn}
 use Rattle.laws.specs.Stamps.{Shows, FullTickRight}
 
 -- ---- the tick by the distance

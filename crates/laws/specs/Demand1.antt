@@ -21,20 +21,23 @@ use Rattle.keeping.specs.declared.Changed.{Changed}
 use Rattle.keeping.specs.Keeping.{outcomeNumber}
 use Rattle.timeline.specs.Opening.{zeroRecord}
 use Rattle.answers.specs.declared.Verdict.the-variants.{Refused as VerdictRefused}
-use Rattle.answers.specs.declared.Availability.the-variants.{Refused as AvailabilityRefused}
-use Rattle.answers.specs.declared.AvailableAt.the-variants.{Refused as AvailableRefused}
-use Rattle.answers.specs.declared.stamps.FullTick.the-variants.{Refused as FullTickRefused}
-use Rattle.answers.specs.declared.Touching.the-variants.{Refused as TouchingRefused}
-use Rattle.answers.specs.Numbers.{verdictNumber, availabilityNumber, availableNumber, touchingNumber, edgeNumber, fullTickNumber}
+use Rattle.lookups.specs.declared.Availability.the-variants.{Refused as AvailabilityRefused}
+use Rattle.lookups.specs.declared.AvailableAt.the-variants.{Refused as AvailableRefused}
+use Rattle.lookups.specs.declared.stamps.FullTick.the-variants.{Refused as FullTickRefused}
+use Rattle.lookups.specs.declared.Touching.the-variants.{Refused as TouchingRefused}
+use Rattle.answers.specs.Numbers.{verdictNumber, edgeNumber}
+use Rattle.lookups.specs.Numbers.{availabilityNumber, availableNumber, touchingNumber, fullTickNumber}
 use Rattle.answers.specs.declared.CoveredEdge.the-variants.{Refused as EdgeRefused}
 use Rattle.file.specs.declared.Reader.{Reader}
 use Rattle.file.specs.declared.ReadAnswer.{ReadAnswer}
 use Rattle.file.specs.Feeding.{belongs}
-use Rattle.file.specs.Writing.{writeNumber}
+use Rattle.writing.specs.Writing.{writeNumber}
 use Rattle.flonterri.specs.Words.{recordWords, headWith, recordOf}
 use Rattle.timeline.proofs as timeline
 use Rattle.answers.proofs as answers
+use Rattle.lookups.proofs as lookups
 use Rattle.file.proofs as file
+use Rattle.writing.proofs as writing
 use Rattle.report.proofs as report
 use Rattle.flonterri.proofs as c
 use Rattle.laws.specs.Refusals.{lowest, openRows, appendTickRows, appendStampRows, trimRows, verdictRows, wholeRows, availabilityRows, availableRows, touchingRows, writeRows, fullTickRows, edgeRows}
@@ -136,18 +139,18 @@ pub record Demand1 : Type 0 where
       (λ (rec, (table, (clock, _))) x _. GivesNumber (verdictNumber x) (verdictRows rec (now table) clock) (Only VerdictRefused x))
   pub verdict-whole : Answers answers.verdicts.verdict_whole.Reads.Asked answers.verdicts.verdict_whole.Reads.Learnt
       (λ (rec, (table, _)) x _. GivesNumber (verdictNumber x) (wholeRows rec (now table)) (Only VerdictRefused x))
-  pub availability : Answers answers.times.availability.Reads.Asked answers.times.availability.Reads.Learnt
+  pub availability : Answers lookups.times.availability.Reads.Asked lookups.times.availability.Reads.Learnt
       (λ (rec, (table, (number, _))) x _.
       GivesNumber (availabilityNumber x) (availabilityRows rec (now table) number) (Only AvailabilityRefused x))
-  pub available-at : Answers answers.times.available_at.Reads.Asked answers.times.available_at.Reads.Learnt
+  pub available-at : Answers lookups.times.available_at.Reads.Asked lookups.times.available_at.Reads.Learnt
       (λ (rec, (table, (number, (clock, _)))) x _.
       GivesNumber (availableNumber x) (availableRows rec (now table) number clock) (Only AvailableRefused x))
-  pub full-tick : Answers answers.stamps.full_tick.Reads.Asked answers.stamps.full_tick.Reads.Learnt
+  pub full-tick : Answers lookups.stamps.full_tick.Reads.Asked lookups.stamps.full_tick.Reads.Learnt
       (λ (rec, (table, _)) x _. GivesNumber (fullTickNumber x) (fullTickRows rec (now table)) (Only FullTickRefused x))
-  pub touching-words : Answers answers.spans.touching_words.Reads.Asked answers.spans.touching_words.Reads.Learnt
+  pub touching-words : Answers lookups.spans.touching_words.Reads.Asked lookups.spans.touching_words.Reads.Learnt
       (λ (rec, (table, (from, (to, _)))) x _. GivesNumber (touchingNumber x) (touchingRows rec (now table) from to) (Only TouchingRefused x))
   -- the part of the table itself gives no number: it is empty where the span lookup refuses
-  pub touching : Answers answers.spans.touching.Reads.Asked answers.spans.touching.Reads.Learnt
+  pub touching : Answers lookups.spans.touching.Reads.Asked lookups.spans.touching.Reads.Learnt
       (λ (rec, (table, (from, (to, _)))) x _. (lowest (touchingRows rec (now table) from to) ≡ 0 → ⊥) → now x ≡ [])
   pub covered-edge : Answers answers.edges.covered_edge.Reads.Asked answers.edges.covered_edge.Reads.Learnt
       (λ (rec, (table, _)) x _. GivesNumber (edgeNumber x) (edgeRows rec (now table)) (Only EdgeRefused x))
@@ -159,7 +162,7 @@ pub record Demand1 : Type 0 where
       (λ (reader, (table, _)) x (_, (table′, _)). Feeds reader (now table) x (now table′))
   pub finish : Answers file.finish.Reads.Asked file.finish.Reads.Learnt
       (λ (reader, (table, _)) x (_, (table′, _)). Finishes reader (now table) x (now table′))
-  pub write : Answers file.write.Reads.Asked file.write.Reads.Learnt
+  pub write : Answers writing.write.Reads.Asked writing.write.Reads.Learnt
       (λ (rec, (table, (out, _))) x (_, (_, (out′, _))).
       GivesNumber (writeNumber x) (writeRows rec (now table) (length (now out))) (now out′ ≡ now out))
   -- the program answers each input by a line

@@ -18,7 +18,7 @@ use Rattle.frames.specs.declared.Frame.the-variants.{Head as HeadFrame, S, End}
 use Rattle.frames.specs.declared.SFields.{SFields}
 use Rattle.frames.specs.Language.{AllFit}
 use Rattle.file.specs.Judging.{readAnswer, readTable}
-use Rattle.file.specs.Writing.{bytesOf}
+use Rattle.writing.specs.Writing.{bytesOf}
 use Rattle.laws.specs.Calls.{Call, byTick, Plain, State, opening, after, afterCalls, outcomeOf, allAccepted}
 use Rattle.laws.specs.History.{Holds}
 use Rattle.laws.specs.Lines.{startOf, openingTick, judgedFile}

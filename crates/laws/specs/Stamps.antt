@@ -15,9 +15,9 @@ use Rattle.agreement.specs.declared.Record.{Record}
 use Rattle.agreement.specs.declared.refusal.Refusal.{Refusal}
 use Rattle.agreement.specs.declared.refusal.Refusal.the-variants.{Disagreement}
 use Rattle.agreement.specs.Agreement.{agrees}
-use Rattle.answers.specs.declared.stamps.FullTick.{FullTick}
-use Rattle.answers.specs.declared.stamps.FullTick.the-variants.{At, Nowhere, Refused}
-use Rattle.answers.specs.Stamps.{fullTickIn}
+use Rattle.lookups.specs.declared.stamps.FullTick.{FullTick}
+use Rattle.lookups.specs.declared.stamps.FullTick.the-variants.{At, Nowhere, Refused}
+use Rattle.lookups.specs.Stamps.{fullTickIn}
 use Rattle.laws.specs.Calls.{State, opening}
 use Rattle.laws.specs.ByHand.{tick, stamp, full, headC, openB, openC}
 

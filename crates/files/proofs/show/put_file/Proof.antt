@@ -12,9 +12,9 @@ use borrow.Author.Tests.{leb-true}
 use Rattle.agreement.specs.declared.Record.{Record}
 use Rattle.agreement.specs.declared.refusal.Refusal.the-variants.{Disagreement, NothingKept, ShortOutput}
 use Rattle.agreement.specs.Agreement.{agrees}
-use Rattle.file.specs.declared.WriteAnswer.{WriteAnswer}
-use Rattle.file.specs.declared.WriteAnswer.the-variants.{Written, Refused}
-use Rattle.file.specs.Writing.{fileFor, writeAnswer}
+use Rattle.writing.specs.declared.WriteAnswer.{WriteAnswer}
+use Rattle.writing.specs.declared.WriteAnswer.the-variants.{Written, Refused}
+use Rattle.writing.specs.Writing.{fileFor, writeAnswer}
 use Rattle.files.proofs.show.put_file.Statement.{statement}
 use Rattle.files.proofs.show.put_file.Tie as tie
 

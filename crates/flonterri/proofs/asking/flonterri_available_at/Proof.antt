@@ -1,6 +1,6 @@
 -- `flonterri_available_at` meets its contract: refused for a length, or what the answer tells.
 use borrow.Author.Needs.{needs}
-use Rattle.answers.specs.Available.{availableIn}
+use Rattle.lookups.specs.Available.{availableIn}
 use Rattle.flonterri.specs.Tells.{availableTells}
 use Rattle.flonterri.specs.Face.{tellsAvailable}
 use Rattle.flonterri.proofs.Lengths.{first-right, second-right}

@@ -1,6 +1,6 @@
 -- `flonterri_full_tick` meets its contract: refused for a length, or what the answer tells.
 use borrow.Author.Needs.{needs}
-use Rattle.answers.specs.Stamps.{fullTickIn}
+use Rattle.lookups.specs.Stamps.{fullTickIn}
 use Rattle.flonterri.specs.Tells.{fullTickTells}
 use Rattle.flonterri.specs.Face.{tellsFullTick}
 use Rattle.flonterri.proofs.Lengths.{first-right, second-right}

@@ -1,7 +1,7 @@
 -- `flonterri_write` meets its contract: refused for a length, or the writing's own answer.
 use borrow.Author.Needs.{needs}
 use lib.ListN.{length}
-use Rattle.file.specs.Writing.{writeAnswer, outputBy, fileFor}
+use Rattle.writing.specs.Writing.{writeAnswer, outputBy, fileFor}
 use Rattle.flonterri.specs.Tells.{writeTells}
 use Rattle.flonterri.specs.Face.{writes}
 use Rattle.flonterri.proofs.Lengths.{first-right, second-right}

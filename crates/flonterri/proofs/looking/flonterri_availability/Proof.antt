@@ -1,6 +1,6 @@
 -- `flonterri_availability` meets its contract: refused for a length, or what the answer tells.
 use borrow.Author.Needs.{needs}
-use Rattle.answers.specs.Available.{availabilityIn}
+use Rattle.lookups.specs.Available.{availabilityIn}
 use Rattle.flonterri.specs.Tells.{availabilityTells}
 use Rattle.flonterri.specs.Face.{tellsAvailability}
 use Rattle.flonterri.proofs.Lengths.{first-right, second-right}

@@ -1,6 +1,6 @@
 -- `flonterri_touching` meets its contract: refused for a length, or what the answer tells.
 use borrow.Author.Needs.{needs}
-use Rattle.answers.specs.Spans.{touchingWords}
+use Rattle.lookups.specs.Spans.{touchingWords}
 use Rattle.flonterri.specs.Tells.{touchingTells}
 use Rattle.flonterri.specs.Face.{tellsTouching}
 use Rattle.flonterri.proofs.Lengths.{first-right, second-right}

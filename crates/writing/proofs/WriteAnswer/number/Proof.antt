@@ -1,0 +1,10 @@
+-- `WriteAnswer::number` meets its contract, case by case.
+use borrow.Author.Needs.{needs}
+use mathlib.Core.Path.{sym, ap, _∙_}
+use Rattle.writing.specs.Writing.{writeNumber}
+use Rattle.writing.proofs.WriteAnswer.number.Statement.{statement}
+use Rattle.writing.proofs.WriteAnswer.number.Tie as tie
+
+pub number-spec : {M : Type 1} → statement M
+number-spec =
+    tie.close (tie.spec (λ c. search needs) (λ c. search needs) (λ c κs. search needs) (λ c. search needs) (λ c. c .number .ensures ∙ ap writeNumber (sym (c .before .before .«self» .given .1))))
