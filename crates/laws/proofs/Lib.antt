@@ -5,6 +5,7 @@ pub mod Leaving
 pub mod Histories
 pub mod Listed
 pub mod Spent
+pub mod Division
 pub mod Verdicts
 pub mod Offers
 pub mod Files

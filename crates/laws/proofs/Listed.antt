@@ -35,19 +35,19 @@ use Rattle.laws.specs.Spent.{usedRun, Agreeing}
 
 -- ---- each reference
 
-each-with : (P Q R : Reference → Type 0) → ((r : Reference) → P r → Q r → R r) → (rs : List Reference) → Each P rs → Each Q rs → Each R rs
+pub each-with : (P Q R : Reference → Type 0) → ((r : Reference) → P r → Q r → R r) → (rs : List Reference) → Each P rs → Each Q rs → Each R rs
 each-with P Q R f [] p q = tt
 each-with P Q R f (r ∷ rs) p q = (f r (p .0) (q .0), each-with P Q R f rs (p .1) (q .1))
 
-each-as : (P Q : Reference → Type 0) → ((r : Reference) → P r → Q r) → (rs : List Reference) → Each P rs → Each Q rs
+pub each-as : (P Q : Reference → Type 0) → ((r : Reference) → P r → Q r) → (rs : List Reference) → Each P rs → Each Q rs
 each-as P Q f rs p = each-with P P Q (λ r x y. f r x) rs p p
 
-each-true : (t : Reference → Bool) (rs : List Reference) → every t rs ≡ true → Each (λ r. t r ≡ true) rs
+pub each-true : (t : Reference → Bool) (rs : List Reference) → every t rs ≡ true → Each (λ r. t r ≡ true) rs
 unfolding every
 each-true t [] e = tt
 each-true t (r ∷ rs) e = let b = and-eq-true-iff (t r) (every t rs) .0 e in (b .0, each-true t rs (b .1))
 
-true-each : (t : Reference → Bool) (rs : List Reference) → Each (λ r. t r ≡ true) rs → every t rs ≡ true
+pub true-each : (t : Reference → Bool) (rs : List Reference) → Each (λ r. t r ≡ true) rs → every t rs ≡ true
 unfolding every
 true-each t [] e = refl
 true-each t (r ∷ rs) e = ap₂ _&&_ (e .0) (true-each t rs (e .1))

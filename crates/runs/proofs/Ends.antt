@@ -46,7 +46,7 @@ module _ (t : ℕ) where
       none-upto (endOf r) rs (j .1) (omega (arith, j .0))
 
   -- THE LAW: a quotient, or all of them
-  passed-quotient : (s d n : ℕ) → 1 ≤ d → passedUpto t (repeated s d n) ≡ min n ((t - s) / d)
+  pub passed-quotient : (s d n : ℕ) → 1 ≤ d → passedUpto t (repeated s d n) ≡ min n ((t - s) / d)
   unfolding passedUpto repeated
   passed-quotient s d zero l = sym (zero-min ((t - s) / d))
   passed-quotient s d (suc n) l = go (leb (s + d) t) refl (passed-quotient (s + d) d n l)

@@ -86,22 +86,19 @@ module _ (h : Head) where
 
   -- ---- the ends that are passed
 
-  module _ (c r : ℕ) (low : Past r (lowEdge h c)) where
-    low-at : r ≡ lowN h c
-    low-at = past-up r (lowEdge h c) low ∙ ap up (low-is h c)
-
+  module _ (c r : ℕ) (at : r ≡ lowN h c) where
     against : (e : ℕ) → passed h e c ≡ leb (cutN h (placeN h e)) r
-    against e = passed-is h e c ∙ ap (leb (cutN h (placeN h e))) (sym low-at)
+    against e = passed-is h e c ∙ ap (leb (cutN h (placeN h e))) (sym at)
 
-    pub all-passed : (t : Bool) → t ≡ overBy h r → t ≡ true → EndsPassed h c All
-    all-passed t w f e = against e ∙ go (endKnown h) (sym (over-is r) ∙ sym w ∙ f)
+    pub all-at : (t : Bool) → t ≡ overBy h r → t ≡ true → EndsPassed h c All
+    all-at t w f e = against e ∙ go (endKnown h) (sym (over-is r) ∙ sym w ∙ f)
       where
         go : (k : Bool) → cond k (leb (endAt h) r) false ≡ true → leb (cond k (min (endAt h) (placeN h e)) (placeN h e)) r ≡ true
         go true g = let l : endAt h ≤ r = leb-true (endAt h) r g in le-leb (min (endAt h) (placeN h e)) r (omega arith)
         go false g = absurd (false≢true g)
 
-    pub upto-passed : (t : Bool) → t ≡ overBy h r → t ≡ false → EndsPassed h c (Upto (record { 0 = h .offset .0 + r / 1000 }))
-    upto-passed t w f e = against e ∙ go (endKnown h) (sym (over-is r) ∙ sym w ∙ f) ∙ end-side e (h .offset .0) r
+    pub upto-at : (t : Bool) → t ≡ overBy h r → t ≡ false → EndsPassed h c (Upto (record { 0 = h .offset .0 + r / 1000 }))
+    upto-at t w f e = against e ∙ go (endKnown h) (sym (over-is r) ∙ sym w ∙ f) ∙ end-side e (h .offset .0) r
       where
         go : (k : Bool) → cond k (leb (endAt h) r) false ≡ false → leb (cond k (min (endAt h) (placeN h e)) (placeN h e)) r ≡ leb (placeN h e) r
         go true g =
@@ -110,6 +107,17 @@ module _ (h : Head) where
             (λ t. let m : min (endAt h) (placeN h e) ≤ r = leb-true (min (endAt h) (placeN h e)) r t in le-leb (placeN h e) r (omega arith))
             (λ t. let m : placeN h e ≤ r = leb-true (placeN h e) r t in le-leb (min (endAt h) (placeN h e)) r (omega arith))
         go false g = refl
+
+  -- the same, of the point that the code has
+  module _ (c r : ℕ) (low : Past r (lowEdge h c)) where
+    low-at : r ≡ lowN h c
+    low-at = past-up r (lowEdge h c) low ∙ ap up (low-is h c)
+
+    pub all-passed : (t : Bool) → t ≡ overBy h r → t ≡ true → EndsPassed h c All
+    all-passed = all-at c r low-at
+
+    pub upto-passed : (t : Bool) → t ≡ overBy h r → t ≡ false → EndsPassed h c (Upto (record { 0 = h .offset .0 + r / 1000 }))
+    upto-passed = upto-at c r low-at
 
   -- ---- the ticks that a window needs
 

@@ -317,6 +317,42 @@ fn spent_with_the_period() -> Case {
     }
 }
 
+/// The quotient alone is not the count: at 10 ms it is two of three, at 11 the lower edge reaches the
+/// period end and the last one is spent too, which that end cuts. So it is with an append at that clock.
+fn cut_by_the_period_end() -> Vec<Case> {
+    let opening = Opening {
+        duration: 10,
+        depth: 1,
+        ..Opening::OPEN_ENDED
+    };
+    let dropped = |many: u64, front: &[u64]| {
+        accepted()
+            .record(word::ACCEPTED, 3)
+            .record(word::DROPPED, many)
+            .record(word::NEXT_TICK, 12)
+            .front(front)
+    };
+    let at_once = |clock, said| Case {
+        name: "three of 4, the last cut by the period end, appended at the clock",
+        opening,
+        calls: vec![(trim(clock), accepted()), (append(0, 4, 3), said)],
+    };
+    let trims = Case {
+        name: "three of 4, the last cut by the period end",
+        opening,
+        calls: vec![
+            (append(0, 4, 3), accepted()),
+            (trim(10), dropped(2, &[8, 4, 1])),
+            (trim(11), dropped(3, &[])),
+        ],
+    };
+    vec![
+        trims,
+        at_once(10, dropped(2, &[8, 4, 1])),
+        at_once(11, dropped(3, &[])),
+    ]
+}
+
 /// An expected error: forgetting the next tick or number when a trim empties the table.
 fn emptied_table() -> Case {
     Case {
@@ -354,6 +390,7 @@ fn cases() -> Vec<Case> {
         emptied_table(),
     ];
     cases.extend(cases_c());
+    cases.extend(cut_by_the_period_end());
     cases
 }
 

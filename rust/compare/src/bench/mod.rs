@@ -2,6 +2,7 @@
 
 mod calls;
 mod file;
+mod spent;
 mod vector;
 
 use std::fmt::Debug;
@@ -27,7 +28,9 @@ pub fn run(arguments: &Arguments) -> Result<(), String> {
     let programs = programs(arguments, LIMIT)?;
     let plain_desk = programs.plain_desk.ok_or("--plain-desk is needed")?;
     file::run(&programs.desk, &plain_desk, arguments)?;
-    calls::run(arguments.calls.unwrap_or(CALLS), arguments.rounds)
+    calls::run(arguments.calls.unwrap_or(CALLS), arguments.rounds)?;
+    spent::run(arguments.rounds);
+    Ok(())
 }
 
 /// The processor's name, as the system tells it.
