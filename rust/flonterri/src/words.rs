@@ -161,133 +161,6 @@ pub mod full_tick_kind {
     pub const AT: u64 = 1;
 }
 
-/// The functions of the archive. A slice passes as its pointer and its length.
-mod archive {
-    extern "C" {
-        pub fn flonterri_open(
-            record: *mut u64,
-            record_words: usize,
-            table: *mut u64,
-            table_words: usize,
-            timescale: u32,
-            offset: u64,
-            start: u64,
-            duration: u64,
-            depth: u64,
-            first_number: u32,
-            first_tick: u64,
-        ) -> u32;
-        pub fn flonterri_append(
-            record: *mut u64,
-            record_words: usize,
-            table: *mut u64,
-            table_words: usize,
-            start: u64,
-            duration: u32,
-            count: u32,
-        ) -> u32;
-        pub fn flonterri_append_stamp(
-            record: *mut u64,
-            record_words: usize,
-            table: *mut u64,
-            table_words: usize,
-            stamp: u32,
-            duration: u32,
-            count: u32,
-        ) -> u32;
-        pub fn flonterri_trim(
-            record: *mut u64,
-            record_words: usize,
-            table: *mut u64,
-            table_words: usize,
-            clock: u64,
-        ) -> u32;
-        pub fn flonterri_verdict(
-            record: *const u64,
-            record_words: usize,
-            table: *const u64,
-            table_words: usize,
-            clock: u64,
-            out: *mut u64,
-            out_words: usize,
-        ) -> u32;
-        pub fn flonterri_verdict_whole(
-            record: *const u64,
-            record_words: usize,
-            table: *const u64,
-            table_words: usize,
-            out: *mut u64,
-            out_words: usize,
-        ) -> u32;
-        pub fn flonterri_availability(
-            record: *const u64,
-            record_words: usize,
-            table: *const u64,
-            table_words: usize,
-            number: u64,
-            out: *mut i64,
-            out_words: usize,
-        ) -> u32;
-        pub fn flonterri_touching(
-            record: *const u64,
-            record_words: usize,
-            table: *const u64,
-            table_words: usize,
-            a: u64,
-            b: u64,
-            out: *mut u64,
-            out_words: usize,
-        ) -> u32;
-        pub fn flonterri_covered_edge(
-            record: *const u64,
-            record_words: usize,
-            table: *const u64,
-            table_words: usize,
-            out: *mut u64,
-            out_words: usize,
-        ) -> u32;
-        pub fn flonterri_available_at(
-            record: *const u64,
-            record_words: usize,
-            table: *const u64,
-            table_words: usize,
-            number: u64,
-            clock: u64,
-            out: *mut u64,
-            out_words: usize,
-        ) -> u32;
-        pub fn flonterri_full_tick(
-            record: *const u64,
-            record_words: usize,
-            table: *const u64,
-            table_words: usize,
-            stamp: u32,
-            out: *mut u64,
-            out_words: usize,
-        ) -> u32;
-        pub fn flonterri_read(
-            bytes: *const u8,
-            byte_count: usize,
-            record: *mut u64,
-            record_words: usize,
-            table: *mut u64,
-            table_words: usize,
-            out: *mut u64,
-            out_words: usize,
-        ) -> u32;
-        pub fn flonterri_write(
-            record: *const u64,
-            record_words: usize,
-            table: *const u64,
-            table_words: usize,
-            bytes: *mut u8,
-            byte_count: usize,
-            out: *mut u64,
-            out_words: usize,
-        ) -> u32;
-    }
-}
-
 /// True where record and table agree, so that they are a timeline; false also where the record is
 /// not of 11 words.
 ///
@@ -308,421 +181,310 @@ pub fn agree(record: &[u64], table: &[u64]) -> bool {
     touching(record, table, 0, 1, &mut [0; TOUCHING_WORDS]) == 0
 }
 
-/// Opens a timeline: writes the record and zeroes the table. It takes any words for both, since it
-/// reads none.
-///
-/// Refusal 1, which zeroes the record and leaves the table as it came; and 2 for the record's
-/// length alone, which leaves both as they came.
-///
-/// ```
-/// use flonterri::words::{self, RECORD_WORDS};
-///
-/// let (mut record, mut table) = ([7; RECORD_WORDS], [7; 30]);
-/// assert_eq!(words::open(&mut record, &mut table, 0, 0, 0, 0, 0, 1, 0), 1);
-/// assert_eq!((record, table), ([0; RECORD_WORDS], [7; 30]));
-/// assert_eq!(words::open(&mut record, &mut table, 1000, 0, 0, 0, 0, 1, 0), 0);
-/// assert_eq!(table, [0; 30]);
-/// ```
-#[allow(clippy::too_many_arguments)]
-pub fn open(
-    record: &mut [u64],
-    table: &mut [u64],
-    timescale: u32,
-    offset: u64,
-    start: u64,
-    duration: u64,
-    depth: u64,
-    first_number: u32,
-    first_tick: u64,
-) -> u32 {
-    // SAFETY: two slices that are borrowed uniquely, each passed with its own length; the
-    // function reads and writes nothing else and keeps no pointer.
-    unsafe {
-        archive::flonterri_open(
-            record.as_mut_ptr(),
-            record.len(),
-            table.as_mut_ptr(),
-            table.len(),
-            timescale,
-            offset,
-            start,
-            duration,
-            depth,
-            first_number,
-            first_tick,
-        )
-    }
+/// Declares calls of the archive, each once: what C sees of it and what Rust sees cannot differ. A slice
+/// passes as its pointer and its length.
+macro_rules! calls {
+    ($($(#[$doc:meta])* fn $name:ident = $archive:ident($($parameters:tt)*);)*) => {
+        $(calls! { @call [$(#[$doc])*] $name $archive [] [] [] $($parameters)* })*
+    };
+    // a slice that the call may write
+    (@call $docs:tt $name:ident $archive:ident [$($rust:tt)*] [$($c:tt)*] [$($passed:tt)*]
+        $slice:ident: &mut [$of:ty], $($more:tt)*) => {
+        calls! { @call $docs $name $archive [$($rust)* $slice: &mut [$of],]
+            [$($c)* _: *mut $of, _: usize,] [$($passed)* $slice.as_mut_ptr(), $slice.len(),] $($more)* }
+    };
+    // a slice that it only reads
+    (@call $docs:tt $name:ident $archive:ident [$($rust:tt)*] [$($c:tt)*] [$($passed:tt)*]
+        $slice:ident: &[$of:ty], $($more:tt)*) => {
+        calls! { @call $docs $name $archive [$($rust)* $slice: &[$of],]
+            [$($c)* _: *const $of, _: usize,] [$($passed)* $slice.as_ptr(), $slice.len(),] $($more)* }
+    };
+    // a number
+    (@call $docs:tt $name:ident $archive:ident [$($rust:tt)*] [$($c:tt)*] [$($passed:tt)*]
+        $number:ident: $of:ty, $($more:tt)*) => {
+        calls! { @call $docs $name $archive [$($rust)* $number: $of,]
+            [$($c)* _: $of,] [$($passed)* $number,] $($more)* }
+    };
+    (@call [$($docs:tt)*] $name:ident $archive:ident [$($rust:tt)*] [$($c:tt)*] [$($passed:tt)*]) => {
+        $($docs)*
+        #[allow(clippy::too_many_arguments)]
+        pub fn $name($($rust)*) -> u32 {
+            extern "C" {
+                fn $archive($($c)*) -> u32;
+            }
+            // SAFETY: each slice passes with its own length, and one that may be written is borrowed
+            // uniquely. The function reads and writes nothing else and keeps no pointer.
+            unsafe { $archive($($passed)*) }
+        }
+    };
 }
 
-/// Appends by full tick.
-///
-/// Refusals 2, 3, 4 or 5, 6, 7, 8, 9, in this order; each leaves record and table as they came.
-///
-/// ```
-/// use flonterri::words::{self, RECORD_WORDS};
-///
-/// let (mut record, mut table) = ([0; RECORD_WORDS], [0; 30]);
-/// assert_eq!(words::open(&mut record, &mut table, 1000, 0, 0, 0, 10_000, 1, 0), 0);
-/// assert_eq!(words::append(&mut record, &mut table, 0, 4000, 5), 0);
-/// assert_eq!(table[..3], [0, 4000, 5]);
-/// assert_eq!(words::append(&mut record, &mut table, 24_000, 4000, 1), 4);
-/// ```
-pub fn append(record: &mut [u64], table: &mut [u64], start: u64, duration: u32, count: u32) -> u32 {
-    // SAFETY: as for `open`: two unique slices with their lengths, no pointer kept.
-    unsafe {
-        archive::flonterri_append(
-            record.as_mut_ptr(),
-            record.len(),
-            table.as_mut_ptr(),
-            table.len(),
-            start,
-            duration,
-            count,
-        )
-    }
-}
+calls! {
+    /// Opens a timeline: writes the record and zeroes the table. It takes any words for both, since it
+    /// reads none.
+    ///
+    /// Refusal 1, which zeroes the record and leaves the table as it came; and 2 for the record's
+    /// length alone, which leaves both as they came.
+    ///
+    /// ```
+    /// use flonterri::words::{self, RECORD_WORDS};
+    ///
+    /// let (mut record, mut table) = ([7; RECORD_WORDS], [7; 30]);
+    /// assert_eq!(words::open(&mut record, &mut table, 0, 0, 0, 0, 0, 1, 0), 1);
+    /// assert_eq!((record, table), ([0; RECORD_WORDS], [7; 30]));
+    /// assert_eq!(words::open(&mut record, &mut table, 1000, 0, 0, 0, 0, 1, 0), 0);
+    /// assert_eq!(table, [0; 30]);
+    /// ```
+    fn open = flonterri_open(
+        record: &mut [u64],
+        table: &mut [u64],
+        timescale: u32,
+        offset: u64,
+        start: u64,
+        duration: u64,
+        depth: u64,
+        first_number: u32,
+        first_tick: u64,
+    );
 
-/// Appends by stamp.
-///
-/// Refusals 2, 3, 4 or 5, 6, 7, 8, 9, in this order; each leaves record and table as they came.
-///
-/// ```
-/// use flonterri::words::{self, RECORD_WORDS};
-///
-/// let (mut record, mut table) = ([0; RECORD_WORDS], [0; 30]);
-/// let first_tick = 4_294_970_000;
-/// assert_eq!(words::open(&mut record, &mut table, 1000, 0, 0, 0, 0, 1, first_tick), 0);
-/// assert_eq!(words::append_stamp(&mut record, &mut table, 2703, 1, 1), 5);
-/// assert_eq!(words::append_stamp(&mut record, &mut table, 2704, 1, 1), 0);
-/// ```
-pub fn append_stamp(
-    record: &mut [u64],
-    table: &mut [u64],
-    stamp: u32,
-    duration: u32,
-    count: u32,
-) -> u32 {
-    // SAFETY: as for `open`: two unique slices with their lengths, no pointer kept.
-    unsafe {
-        archive::flonterri_append_stamp(
-            record.as_mut_ptr(),
-            record.len(),
-            table.as_mut_ptr(),
-            table.len(),
-            stamp,
-            duration,
-            count,
-        )
-    }
-}
+    /// Appends by full tick.
+    ///
+    /// Refusals 2, 3, 4 or 5, 6, 7, 8, 9, in this order; each leaves record and table as they came.
+    ///
+    /// ```
+    /// use flonterri::words::{self, RECORD_WORDS};
+    ///
+    /// let (mut record, mut table) = ([0; RECORD_WORDS], [0; 30]);
+    /// assert_eq!(words::open(&mut record, &mut table, 1000, 0, 0, 0, 10_000, 1, 0), 0);
+    /// assert_eq!(words::append(&mut record, &mut table, 0, 4000, 5), 0);
+    /// assert_eq!(table[..3], [0, 4000, 5]);
+    /// assert_eq!(words::append(&mut record, &mut table, 24_000, 4000, 1), 4);
+    /// ```
+    fn append = flonterri_append(
+        record: &mut [u64],
+        table: &mut [u64],
+        start: u64,
+        duration: u32,
+        count: u32,
+    );
 
-/// Trims at a clock.
-///
-/// Refusals 2, 10, in this order; each leaves record and table as they came.
-///
-/// ```
-/// use flonterri::words::{self, RECORD_WORDS};
-///
-/// let (mut record, mut table) = ([0; RECORD_WORDS], [0; 30]);
-/// assert_eq!(words::open(&mut record, &mut table, 1000, 0, 0, 0, 10_000, 1, 0), 0);
-/// assert_eq!(words::append(&mut record, &mut table, 0, 4000, 5), 0);
-/// assert_eq!(words::trim(&mut record, &mut table, 18_000), 0);
-/// assert_eq!(table[..3], [8000, 4000, 3]);
-/// ```
-pub fn trim(record: &mut [u64], table: &mut [u64], clock: u64) -> u32 {
-    // SAFETY: as for `open`: two unique slices with their lengths, no pointer kept.
-    unsafe {
-        archive::flonterri_trim(
-            record.as_mut_ptr(),
-            record.len(),
-            table.as_mut_ptr(),
-            table.len(),
-            clock,
-        )
-    }
-}
+    /// Appends by stamp.
+    ///
+    /// Refusals 2, 3, 4 or 5, 6, 7, 8, 9, in this order; each leaves record and table as they came.
+    ///
+    /// ```
+    /// use flonterri::words::{self, RECORD_WORDS};
+    ///
+    /// let (mut record, mut table) = ([0; RECORD_WORDS], [0; 30]);
+    /// let first_tick = 4_294_970_000;
+    /// assert_eq!(words::open(&mut record, &mut table, 1000, 0, 0, 0, 0, 1, first_tick), 0);
+    /// assert_eq!(words::append_stamp(&mut record, &mut table, 2703, 1, 1), 5);
+    /// assert_eq!(words::append_stamp(&mut record, &mut table, 2704, 1, 1), 0);
+    /// ```
+    fn append_stamp = flonterri_append_stamp(
+        record: &mut [u64],
+        table: &mut [u64],
+        stamp: u32,
+        duration: u32,
+        count: u32,
+    );
 
-/// The verdict at a clock. `out` is [`VERDICT_WORDS`] words, in the order that [`verdict_word`]
-/// tells.
-///
-/// Refusals 2, 10, 11, in this order, and 15 for the length of `out`; each leaves `out` as it came.
-///
-/// ```
-/// use flonterri::words::{self, RECORD_WORDS};
-///
-/// let (mut record, mut table) = ([0; RECORD_WORDS], [0; 30]);
-/// assert_eq!(words::open(&mut record, &mut table, 1000, 0, 0, 0, 10_000, 1, 0), 0);
-/// assert_eq!(words::append(&mut record, &mut table, 0, 4000, 5), 0);
-/// let mut out = [0; words::VERDICT_WORDS];
-/// assert_eq!(words::verdict(&record, &table, 20_001, &mut out), 0);
-/// assert_eq!(out, [words::verdict_kind::LACKING, 10_000, 9_999, 20_000, 99]);
-/// ```
-pub fn verdict(record: &[u64], table: &[u64], clock: u64, out: &mut [u64]) -> u32 {
-    // SAFETY: two slices that are only read and one that is borrowed uniquely, each with its own
-    // length; the function keeps no pointer.
-    unsafe {
-        archive::flonterri_verdict(
-            record.as_ptr(),
-            record.len(),
-            table.as_ptr(),
-            table.len(),
-            clock,
-            out.as_mut_ptr(),
-            out.len(),
-        )
-    }
-}
+    /// Trims at a clock.
+    ///
+    /// Refusals 2, 10, in this order; each leaves record and table as they came.
+    ///
+    /// ```
+    /// use flonterri::words::{self, RECORD_WORDS};
+    ///
+    /// let (mut record, mut table) = ([0; RECORD_WORDS], [0; 30]);
+    /// assert_eq!(words::open(&mut record, &mut table, 1000, 0, 0, 0, 10_000, 1, 0), 0);
+    /// assert_eq!(words::append(&mut record, &mut table, 0, 4000, 5), 0);
+    /// assert_eq!(words::trim(&mut record, &mut table, 18_000), 0);
+    /// assert_eq!(table[..3], [8000, 4000, 3]);
+    /// ```
+    fn trim = flonterri_trim(record: &mut [u64], table: &mut [u64], clock: u64,);
 
-/// The verdict of the whole period, `out` as for [`verdict`].
-///
-/// Refusals 2, 19, in this order, and 15 for the length of `out`; each leaves `out` as it came.
-///
-/// ```
-/// use flonterri::words::{self, RECORD_WORDS};
-///
-/// let (mut record, mut table) = ([0; RECORD_WORDS], [0; 30]);
-/// assert_eq!(words::open(&mut record, &mut table, 3, 0, 0, 500, 0, 0, 0), 0);
-/// let mut out = [0; words::VERDICT_WORDS];
-/// assert_eq!(words::verdict_whole(&record, &table, &mut out), 0);
-/// assert_eq!(out, [words::verdict_kind::LACKING, 2, 0, 0, 0]);
-/// ```
-pub fn verdict_whole(record: &[u64], table: &[u64], out: &mut [u64]) -> u32 {
-    // SAFETY: as for `verdict`: two slices only read, one unique, no pointer kept.
-    unsafe {
-        archive::flonterri_verdict_whole(
-            record.as_ptr(),
-            record.len(),
-            table.as_ptr(),
-            table.len(),
-            out.as_mut_ptr(),
-            out.len(),
-        )
-    }
-}
+    /// The verdict at a clock. `out` is [`VERDICT_WORDS`] words, in the order that [`verdict_word`]
+    /// tells.
+    ///
+    /// Refusals 2, 10, 11, in this order, and 15 for the length of `out`; each leaves `out` as it came.
+    ///
+    /// ```
+    /// use flonterri::words::{self, RECORD_WORDS};
+    ///
+    /// let (mut record, mut table) = ([0; RECORD_WORDS], [0; 30]);
+    /// assert_eq!(words::open(&mut record, &mut table, 1000, 0, 0, 0, 10_000, 1, 0), 0);
+    /// assert_eq!(words::append(&mut record, &mut table, 0, 4000, 5), 0);
+    /// let mut out = [0; words::VERDICT_WORDS];
+    /// assert_eq!(words::verdict(&record, &table, 20_001, &mut out), 0);
+    /// assert_eq!(out, [words::verdict_kind::LACKING, 10_000, 9_999, 20_000, 99]);
+    /// ```
+    fn verdict = flonterri_verdict(record: &[u64], table: &[u64], clock: u64, out: &mut [u64],);
 
-/// The availability of a number. `out` is [`AVAILABILITY_WORDS`] words, in the order that
-/// [`availability_word`] tells, in signed grains from availabilityStartTime.
-///
-/// Refusals 2, 13, in this order, and 15 for the length of `out`; each leaves `out` as it came. A
-/// number that no kept reference has is 13, whatever its size; so is each over 2^32 - 1.
-///
-/// ```
-/// use flonterri::words::{self, RECORD_WORDS};
-///
-/// let (mut record, mut table) = ([0; RECORD_WORDS], [0; 30]);
-/// assert_eq!(words::open(&mut record, &mut table, 1000, 0, 0, 0, 10_000, 1, 0), 0);
-/// assert_eq!(words::append(&mut record, &mut table, 0, 4000, 5), 0);
-/// let mut out = [0; words::AVAILABILITY_WORDS];
-/// assert_eq!(words::availability(&record, &table, 3, &mut out), 0);
-/// assert_eq!(out, [words::availability_kind::ENDS, 12_000_000, 26_000_000]);
-/// assert_eq!(words::availability(&record, &table, 6, &mut out), 13);
-/// ```
-pub fn availability(record: &[u64], table: &[u64], number: u64, out: &mut [i64]) -> u32 {
-    // SAFETY: as for `verdict`: two slices only read, one unique, no pointer kept.
-    unsafe {
-        archive::flonterri_availability(
-            record.as_ptr(),
-            record.len(),
-            table.as_ptr(),
-            table.len(),
-            number,
-            out.as_mut_ptr(),
-            out.len(),
-        )
-    }
-}
+    /// The verdict of the whole period, `out` as for [`verdict`].
+    ///
+    /// Refusals 2, 19, in this order, and 15 for the length of `out`; each leaves `out` as it came.
+    ///
+    /// ```
+    /// use flonterri::words::{self, RECORD_WORDS};
+    ///
+    /// let (mut record, mut table) = ([0; RECORD_WORDS], [0; 30]);
+    /// assert_eq!(words::open(&mut record, &mut table, 3, 0, 0, 500, 0, 0, 0), 0);
+    /// let mut out = [0; words::VERDICT_WORDS];
+    /// assert_eq!(words::verdict_whole(&record, &table, &mut out), 0);
+    /// assert_eq!(out, [words::verdict_kind::LACKING, 2, 0, 0, 0]);
+    /// ```
+    fn verdict_whole = flonterri_verdict_whole(record: &[u64], table: &[u64], out: &mut [u64],);
 
-/// The runs that touch the ticks from a to b, b excluded. `out` is [`TOUCHING_WORDS`] words, in the
-/// order that [`touching_word`] tells.
-///
-/// Refusals 2, 14, in this order, and 15 for the length of `out`; each leaves `out` as it came.
-///
-/// ```
-/// use flonterri::words::{self, RECORD_WORDS};
-///
-/// let (mut record, mut table) = ([0; RECORD_WORDS], [0; 30]);
-/// assert_eq!(words::open(&mut record, &mut table, 1000, 0, 0, 0, 10_000, 1, 0), 0);
-/// assert_eq!(words::append(&mut record, &mut table, 0, 4000, 5), 0);
-/// let mut out = [0; words::TOUCHING_WORDS];
-/// assert_eq!(words::touching(&record, &table, 19_999, 30_000, &mut out), 0);
-/// assert_eq!(out, [0, 3]);
-/// ```
-pub fn touching(record: &[u64], table: &[u64], a: u64, b: u64, out: &mut [u64]) -> u32 {
-    // SAFETY: as for `verdict`: two slices only read, one unique, no pointer kept.
-    unsafe {
-        archive::flonterri_touching(
-            record.as_ptr(),
-            record.len(),
-            table.as_ptr(),
-            table.len(),
-            a,
-            b,
-            out.as_mut_ptr(),
-            out.len(),
-        )
-    }
-}
+    /// The availability of a number. `out` is [`AVAILABILITY_WORDS`] words, in the order that
+    /// [`availability_word`] tells, in signed grains from availabilityStartTime.
+    ///
+    /// Refusals 2, 13, in this order, and 15 for the length of `out`; each leaves `out` as it came. A
+    /// number that no kept reference has is 13, whatever its size; so is each over 2^32 - 1.
+    ///
+    /// ```
+    /// use flonterri::words::{self, RECORD_WORDS};
+    ///
+    /// let (mut record, mut table) = ([0; RECORD_WORDS], [0; 30]);
+    /// assert_eq!(words::open(&mut record, &mut table, 1000, 0, 0, 0, 10_000, 1, 0), 0);
+    /// assert_eq!(words::append(&mut record, &mut table, 0, 4000, 5), 0);
+    /// let mut out = [0; words::AVAILABILITY_WORDS];
+    /// assert_eq!(words::availability(&record, &table, 3, &mut out), 0);
+    /// assert_eq!(out, [words::availability_kind::ENDS, 12_000_000, 26_000_000]);
+    /// assert_eq!(words::availability(&record, &table, 6, &mut out), 13);
+    /// ```
+    fn availability = flonterri_availability(
+        record: &[u64],
+        table: &[u64],
+        number: u64,
+        out: &mut [i64],
+    );
 
-/// The covered edge: the greatest clock within its limit at which the window's upper edge is at or
-/// before the next tick. `out` is [`EDGE_WORDS`] words, in the order that [`edge_word`] tells.
-///
-/// Refusal 2, and 15 for the length of `out`; each leaves `out` as it came.
-///
-/// ```
-/// use flonterri::words::{self, RECORD_WORDS};
-///
-/// let (mut record, mut table) = ([0; RECORD_WORDS], [0; 30]);
-/// assert_eq!(words::open(&mut record, &mut table, 1000, 0, 0, 0, 10_000, 1, 0), 0);
-/// assert_eq!(words::append(&mut record, &mut table, 0, 4000, 5), 0);
-/// let mut out = [0; words::EDGE_WORDS];
-/// assert_eq!(words::covered_edge(&record, &table, &mut out), 0);
-/// assert_eq!(out, [words::edge_kind::AT, 20_000]);
-/// ```
-pub fn covered_edge(record: &[u64], table: &[u64], out: &mut [u64]) -> u32 {
-    // SAFETY: as for `verdict`: two slices only read, one unique, no pointer kept.
-    unsafe {
-        archive::flonterri_covered_edge(
-            record.as_ptr(),
-            record.len(),
-            table.as_ptr(),
-            table.len(),
-            out.as_mut_ptr(),
-            out.len(),
-        )
-    }
-}
+    /// The runs that touch the ticks from a to b, b excluded. `out` is [`TOUCHING_WORDS`] words, in the
+    /// order that [`touching_word`] tells.
+    ///
+    /// Refusals 2, 14, in this order, and 15 for the length of `out`; each leaves `out` as it came.
+    ///
+    /// ```
+    /// use flonterri::words::{self, RECORD_WORDS};
+    ///
+    /// let (mut record, mut table) = ([0; RECORD_WORDS], [0; 30]);
+    /// assert_eq!(words::open(&mut record, &mut table, 1000, 0, 0, 0, 10_000, 1, 0), 0);
+    /// assert_eq!(words::append(&mut record, &mut table, 0, 4000, 5), 0);
+    /// let mut out = [0; words::TOUCHING_WORDS];
+    /// assert_eq!(words::touching(&record, &table, 19_999, 30_000, &mut out), 0);
+    /// assert_eq!(out, [0, 3]);
+    /// ```
+    fn touching = flonterri_touching(
+        record: &[u64],
+        table: &[u64],
+        a: u64,
+        b: u64,
+        out: &mut [u64],
+    );
 
-/// Whether the reference of a number is available at a clock. `out` is 1 word: 1 where it is, else 0.
-///
-/// Refusals 2, 10, 13, in this order, and 15 for the length of `out`; each leaves `out` as it came. A
-/// number over 2^32 - 1 is 13.
-///
-/// ```
-/// use flonterri::words::{self, RECORD_WORDS};
-///
-/// let (mut record, mut table) = ([0; RECORD_WORDS], [0; 30]);
-/// assert_eq!(words::open(&mut record, &mut table, 1000, 0, 0, 0, 10_000, 1, 0), 0);
-/// assert_eq!(words::append(&mut record, &mut table, 0, 4000, 5), 0);
-/// let mut out = [7; words::AVAILABLE_WORDS];
-/// assert_eq!(words::available_at(&record, &table, 3, 11_999, &mut out), 0);
-/// assert_eq!(out, [0]);
-/// assert_eq!(words::available_at(&record, &table, 3, 12_000, &mut out), 0);
-/// assert_eq!(out, [1]);
-/// ```
-pub fn available_at(
-    record: &[u64],
-    table: &[u64],
-    number: u64,
-    clock: u64,
-    out: &mut [u64],
-) -> u32 {
-    // SAFETY: as for `verdict`: two slices only read, one unique, no pointer kept.
-    unsafe {
-        archive::flonterri_available_at(
-            record.as_ptr(),
-            record.len(),
-            table.as_ptr(),
-            table.len(),
-            number,
-            clock,
-            out.as_mut_ptr(),
-            out.len(),
-        )
-    }
-}
+    /// The covered edge: the greatest clock within its limit at which the window's upper edge is at or
+    /// before the next tick. `out` is [`EDGE_WORDS`] words, in the order that [`edge_word`] tells.
+    ///
+    /// Refusal 2, and 15 for the length of `out`; each leaves `out` as it came.
+    ///
+    /// ```
+    /// use flonterri::words::{self, RECORD_WORDS};
+    ///
+    /// let (mut record, mut table) = ([0; RECORD_WORDS], [0; 30]);
+    /// assert_eq!(words::open(&mut record, &mut table, 1000, 0, 0, 0, 10_000, 1, 0), 0);
+    /// assert_eq!(words::append(&mut record, &mut table, 0, 4000, 5), 0);
+    /// let mut out = [0; words::EDGE_WORDS];
+    /// assert_eq!(words::covered_edge(&record, &table, &mut out), 0);
+    /// assert_eq!(out, [words::edge_kind::AT, 20_000]);
+    /// ```
+    fn covered_edge = flonterri_covered_edge(record: &[u64], table: &[u64], out: &mut [u64],);
 
-/// The full tick of a stamp: the one within half a circle of the next tick that has these low 32
-/// bits; one exactly 2^31 away lies behind. `out` is [`FULL_TICK_WORDS`] words, in the order that
-/// [`full_tick_word`] tells.
-///
-/// Refusal 2, and 15 for the length of `out`; each leaves `out` as it came.
-///
-/// ```
-/// use flonterri::words::{self, RECORD_WORDS};
-///
-/// let (mut record, mut table) = ([0; RECORD_WORDS], [0; 30]);
-/// let first_tick = 4_294_970_000;
-/// assert_eq!(words::open(&mut record, &mut table, 1000, 0, 0, 0, 0, 1, first_tick), 0);
-/// let mut out = [0; words::FULL_TICK_WORDS];
-/// assert_eq!(words::full_tick(&record, &table, 2705, &mut out), 0);
-/// assert_eq!(out, [words::full_tick_kind::AT, first_tick + 1]);
-/// ```
-pub fn full_tick(record: &[u64], table: &[u64], stamp: u32, out: &mut [u64]) -> u32 {
-    // SAFETY: as for `verdict`: two slices only read, one unique, no pointer kept.
-    unsafe {
-        archive::flonterri_full_tick(
-            record.as_ptr(),
-            record.len(),
-            table.as_ptr(),
-            table.len(),
-            stamp,
-            out.as_mut_ptr(),
-            out.len(),
-        )
-    }
-}
+    /// Whether the reference of a number is available at a clock. `out` is 1 word: 1 where it is, else 0.
+    ///
+    /// Refusals 2, 10, 13, in this order, and 15 for the length of `out`; each leaves `out` as it came. A
+    /// number over 2^32 - 1 is 13.
+    ///
+    /// ```
+    /// use flonterri::words::{self, RECORD_WORDS};
+    ///
+    /// let (mut record, mut table) = ([0; RECORD_WORDS], [0; 30]);
+    /// assert_eq!(words::open(&mut record, &mut table, 1000, 0, 0, 0, 10_000, 1, 0), 0);
+    /// assert_eq!(words::append(&mut record, &mut table, 0, 4000, 5), 0);
+    /// let mut out = [7; words::AVAILABLE_WORDS];
+    /// assert_eq!(words::available_at(&record, &table, 3, 11_999, &mut out), 0);
+    /// assert_eq!(out, [0]);
+    /// assert_eq!(words::available_at(&record, &table, 3, 12_000, &mut out), 0);
+    /// assert_eq!(out, [1]);
+    /// ```
+    fn available_at = flonterri_available_at(
+        record: &[u64],
+        table: &[u64],
+        number: u64,
+        clock: u64,
+        out: &mut [u64],
+    );
 
-/// Reads a file into record and table, which may hold any words before. `out` is 1 word: the
-/// refused line, counted from 1, or 0 where the file is accepted.
-///
-/// Refusals 1, 3 to 9, 16, 17, 18 by a line: the first refused line decides, and on a line 16 comes
-/// first, then 17, then its fields. Each zeroes record and table and puts the line into `out`. And
-/// for the lengths alone 2, then 15, which leave record, table and `out` as they came.
-///
-/// ```
-/// use flonterri::words::{self, RECORD_WORDS};
-///
-/// let (mut record, mut table, mut out) = ([7; RECORD_WORDS], [7; 30], [0]);
-/// assert_eq!(words::read(b"not a file\n", &mut record, &mut table, &mut out), 16);
-/// assert_eq!((record, table, out), ([0; RECORD_WORDS], [0; 30], [1]));
-/// ```
-pub fn read(bytes: &[u8], record: &mut [u64], table: &mut [u64], out: &mut [u64]) -> u32 {
-    // SAFETY: one slice that is only read and three that are borrowed uniquely, each with its own
-    // length; the function keeps no pointer.
-    unsafe {
-        archive::flonterri_read(
-            bytes.as_ptr(),
-            bytes.len(),
-            record.as_mut_ptr(),
-            record.len(),
-            table.as_mut_ptr(),
-            table.len(),
-            out.as_mut_ptr(),
-            out.len(),
-        )
-    }
-}
+    /// The full tick of a stamp: the one within half a circle of the next tick that has these low 32
+    /// bits; one exactly 2^31 away lies behind. `out` is [`FULL_TICK_WORDS`] words, in the order that
+    /// [`full_tick_word`] tells.
+    ///
+    /// Refusal 2, and 15 for the length of `out`; each leaves `out` as it came.
+    ///
+    /// ```
+    /// use flonterri::words::{self, RECORD_WORDS};
+    ///
+    /// let (mut record, mut table) = ([0; RECORD_WORDS], [0; 30]);
+    /// let first_tick = 4_294_970_000;
+    /// assert_eq!(words::open(&mut record, &mut table, 1000, 0, 0, 0, 0, 1, first_tick), 0);
+    /// let mut out = [0; words::FULL_TICK_WORDS];
+    /// assert_eq!(words::full_tick(&record, &table, 2705, &mut out), 0);
+    /// assert_eq!(out, [words::full_tick_kind::AT, first_tick + 1]);
+    /// ```
+    fn full_tick = flonterri_full_tick(
+        record: &[u64],
+        table: &[u64],
+        stamp: u32,
+        out: &mut [u64],
+    );
 
-/// Writes the file into the front of an output; the bytes behind it stay as they came. `out` is 1
-/// word: the length.
-///
-/// Refusals 2, 12, 15, in this order: 15 for bytes that are fewer than the file's, and before all
-/// but the record's length for that of `out`. Each leaves the bytes and `out` as they came.
-///
-/// ```
-/// use flonterri::words::{self, RECORD_WORDS};
-///
-/// let (mut record, mut table) = ([0; RECORD_WORDS], [0; 30]);
-/// assert_eq!(words::open(&mut record, &mut table, 1000, 0, 0, 0, 10_000, 1, 0), 0);
-/// assert_eq!(words::append(&mut record, &mut table, 0, 4000, 5), 0);
-/// let (mut bytes, mut out) = ([0; 200], [0]);
-/// assert_eq!(words::write(&record, &table, &mut bytes, &mut out), 0);
-/// assert_eq!(out, [83 + 35 + 11]);
-/// assert_eq!(bytes[..10], *b"01000003e8");
-/// ```
-pub fn write(record: &[u64], table: &[u64], bytes: &mut [u8], out: &mut [u64]) -> u32 {
-    // SAFETY: two slices that are only read and two that are borrowed uniquely, each with its own
-    // length; the function keeps no pointer.
-    unsafe {
-        archive::flonterri_write(
-            record.as_ptr(),
-            record.len(),
-            table.as_ptr(),
-            table.len(),
-            bytes.as_mut_ptr(),
-            bytes.len(),
-            out.as_mut_ptr(),
-            out.len(),
-        )
-    }
+    /// Reads a file into record and table, which may hold any words before. `out` is 1 word: the
+    /// refused line, counted from 1, or 0 where the file is accepted.
+    ///
+    /// Refusals 1, 3 to 9, 16, 17, 18 by a line: the first refused line decides, and on a line 16 comes
+    /// first, then 17, then its fields. Each zeroes record and table and puts the line into `out`. And
+    /// for the lengths alone 2, then 15, which leave record, table and `out` as they came.
+    ///
+    /// ```
+    /// use flonterri::words::{self, RECORD_WORDS};
+    ///
+    /// let (mut record, mut table, mut out) = ([7; RECORD_WORDS], [7; 30], [0]);
+    /// assert_eq!(words::read(b"not a file\n", &mut record, &mut table, &mut out), 16);
+    /// assert_eq!((record, table, out), ([0; RECORD_WORDS], [0; 30], [1]));
+    /// ```
+    fn read = flonterri_read(
+        bytes: &[u8],
+        record: &mut [u64],
+        table: &mut [u64],
+        out: &mut [u64],
+    );
+
+    /// Writes the file into the front of an output; the bytes behind it stay as they came. `out` is 1
+    /// word: the length.
+    ///
+    /// Refusals 2, 12, 15, in this order: 15 for bytes that are fewer than the file's, and before all
+    /// but the record's length for that of `out`. Each leaves the bytes and `out` as they came.
+    ///
+    /// ```
+    /// use flonterri::words::{self, RECORD_WORDS};
+    ///
+    /// let (mut record, mut table) = ([0; RECORD_WORDS], [0; 30]);
+    /// assert_eq!(words::open(&mut record, &mut table, 1000, 0, 0, 0, 10_000, 1, 0), 0);
+    /// assert_eq!(words::append(&mut record, &mut table, 0, 4000, 5), 0);
+    /// let (mut bytes, mut out) = ([0; 200], [0]);
+    /// assert_eq!(words::write(&record, &table, &mut bytes, &mut out), 0);
+    /// assert_eq!(out, [83 + 35 + 11]);
+    /// assert_eq!(bytes[..10], *b"01000003e8");
+    /// ```
+    fn write = flonterri_write(record: &[u64], table: &[u64], bytes: &mut [u8], out: &mut [u64],);
 }
