@@ -22,6 +22,11 @@ use Rattle.answers.specs.declared.Verdict.{Verdict}
 use Rattle.answers.specs.declared.Verdict.the-variants as verdict
 use Rattle.answers.specs.declared.Percent.{Percent}
 use Rattle.answers.specs.declared.Percent.the-variants.{Of, Undefined}
+use Rattle.answers.specs.declared.CoveredEdge.{CoveredEdge}
+use Rattle.answers.specs.declared.CoveredEdge.the-variants as edge
+use Rattle.answers.specs.Judgement.{verdictAt, verdictWhole, complete}
+use Rattle.answers.specs.Shares.{verdictPercent, percentNumber, hundred}
+use Rattle.answers.proofs.Completeness.{percent-at, percent-whole}
 use Rattle.lookups.specs.declared.Availability.{Availability}
 use Rattle.lookups.specs.declared.Availability.the-variants as availability
 use Rattle.lookups.specs.declared.AvailableAt.{AvailableAt}
@@ -30,14 +35,9 @@ use Rattle.lookups.specs.declared.stamps.FullTick.{FullTick}
 use Rattle.lookups.specs.declared.stamps.FullTick.the-variants as full
 use Rattle.lookups.specs.declared.Touching.{Touching}
 use Rattle.lookups.specs.declared.Touching.the-variants as touching
-use Rattle.answers.specs.declared.CoveredEdge.{CoveredEdge}
-use Rattle.answers.specs.declared.CoveredEdge.the-variants as edge
-use Rattle.answers.specs.Judgement.{verdictAt, verdictWhole, complete}
-use Rattle.answers.specs.Shares.{verdictPercent, percentNumber, hundred}
-use Rattle.answers.proofs.Completeness.{percent-at, percent-whole}
+use Rattle.file.specs.Judging.{readLines, readOutcome, answeredBy, readAnswer, readTable, zeroed}
 use Rattle.writing.specs.declared.WriteAnswer.{WriteAnswer}
 use Rattle.writing.specs.declared.WriteAnswer.the-variants as written
-use Rattle.file.specs.Judging.{readLines, readOutcome, answeredBy, readAnswer, readTable, zeroed}
 use Rattle.writing.specs.Writing.{writeAnswer, outputBy, fileFor}
 use Rattle.flonterri.specs.Words.{recordWords, recordOf, wordsOf, headWith}
 use Rattle.flonterri.specs.Tells.{Tells, verdictOut, verdictTells, availabilityOut, availabilityTells, touchingOut, touchingTells, writeOut, writeTells, availableOut, availableTells, fullTickOut, fullTickTells, edgeOut, edgeTells}

@@ -18,13 +18,13 @@ use Rattle.timeline.specs.Opening.{openAnswer, openTable}
 use Rattle.timeline.specs.Appending.{appendAnswer, appendTable}
 use Rattle.timeline.specs.Trimming.{trimAnswer, trimTable}
 use Rattle.answers.specs.Judgement.{verdictAt, verdictWhole}
+use Rattle.answers.specs.Edge.{coveredEdge}
 use Rattle.lookups.specs.Available.{availabilityIn, availableIn}
 use Rattle.lookups.specs.Stamps.{fullTickIn}
 use Rattle.lookups.specs.Spans.{touchingWords}
-use Rattle.answers.specs.Edge.{coveredEdge}
 use Rattle.file.specs.declared.ReadAnswer.{ReadAnswer}
-use Rattle.writing.specs.declared.WriteAnswer.{WriteAnswer}
 use Rattle.file.specs.Judging.{readAnswer, readTable}
+use Rattle.writing.specs.declared.WriteAnswer.{WriteAnswer}
 use Rattle.writing.specs.Writing.{writeAnswer, outputBy, fileFor}
 use Rattle.flonterri.specs.Words.{recordWords, headWith, recordOf, wordsOf}
 use Rattle.flonterri.specs.Tells.{Tells, verdictTells, availabilityTells, touchingTells, writeTells, availableTells, fullTickTells, edgeTells}

@@ -5,6 +5,10 @@ use mathlib.Core.List.{List, [], _∷_}
 use lib.IntN.{ℤ, pos}
 use Rattle.answers.specs.declared.Verdict.{Verdict}
 use Rattle.answers.specs.declared.Verdict.the-variants as verdict
+use Rattle.answers.specs.Numbers.{verdictNumber, edgeNumber}
+use Rattle.answers.specs.declared.CoveredEdge.{CoveredEdge}
+use Rattle.answers.specs.declared.CoveredEdge.the-variants as edge
+use Rattle.answers.specs.Shares.{verdictPercent, percentNumber}
 use Rattle.lookups.specs.declared.Availability.{Availability}
 use Rattle.lookups.specs.declared.Availability.the-variants as availability
 use Rattle.lookups.specs.declared.AvailableAt.{AvailableAt}
@@ -13,11 +17,7 @@ use Rattle.lookups.specs.declared.stamps.FullTick.{FullTick}
 use Rattle.lookups.specs.declared.stamps.FullTick.the-variants as full
 use Rattle.lookups.specs.declared.Touching.{Touching}
 use Rattle.lookups.specs.declared.Touching.the-variants as touching
-use Rattle.answers.specs.Numbers.{verdictNumber, edgeNumber}
 use Rattle.lookups.specs.Numbers.{availabilityNumber, touchingNumber, availableNumber, fullTickNumber}
-use Rattle.answers.specs.declared.CoveredEdge.{CoveredEdge}
-use Rattle.answers.specs.declared.CoveredEdge.the-variants as edge
-use Rattle.answers.specs.Shares.{verdictPercent, percentNumber}
 use Rattle.writing.specs.declared.WriteAnswer.{WriteAnswer}
 use Rattle.writing.specs.declared.WriteAnswer.the-variants as written
 use Rattle.writing.specs.Writing.{writeNumber}

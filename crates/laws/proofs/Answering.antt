@@ -18,6 +18,9 @@ use Rattle.keeping.specs.Keeping.{outcomeNumber, changedBy, wordsBy}
 use Rattle.timeline.specs.Opening.{zeroRecord}
 use Rattle.answers.specs.declared.Verdict.{Verdict}
 use Rattle.answers.specs.declared.Verdict.the-variants as verdict
+use Rattle.answers.specs.declared.CoveredEdge.{CoveredEdge}
+use Rattle.answers.specs.declared.CoveredEdge.the-variants as edge
+use Rattle.answers.specs.Numbers.{verdictNumber, edgeNumber}
 use Rattle.lookups.specs.declared.Availability.{Availability}
 use Rattle.lookups.specs.declared.Availability.the-variants as availability
 use Rattle.lookups.specs.declared.AvailableAt.{AvailableAt}
@@ -26,20 +29,17 @@ use Rattle.lookups.specs.declared.stamps.FullTick.{FullTick}
 use Rattle.lookups.specs.declared.stamps.FullTick.the-variants as full
 use Rattle.lookups.specs.declared.Touching.{Touching}
 use Rattle.lookups.specs.declared.Touching.the-variants as touching
-use Rattle.answers.specs.declared.CoveredEdge.{CoveredEdge}
-use Rattle.answers.specs.declared.CoveredEdge.the-variants as edge
-use Rattle.answers.specs.Numbers.{verdictNumber, edgeNumber}
 use Rattle.lookups.specs.Numbers.{availabilityNumber, availableNumber, touchingNumber, fullTickNumber}
 use Rattle.lookups.specs.Spans.{partOf}
 use Rattle.file.specs.declared.Reader.{Reader}
 use Rattle.file.specs.declared.Reading.{Reading}
 use Rattle.file.specs.declared.ReadAnswer.{ReadAnswer}
-use Rattle.writing.specs.declared.WriteAnswer.{WriteAnswer}
-use Rattle.writing.specs.declared.WriteAnswer.the-variants as written
 use Rattle.file.specs.Lines.{restFrom}
 use Rattle.file.specs.Judging.{readLines, readOutcome, answeredBy, readAnswer, readTable, zeroed}
 use Rattle.file.specs.SoFar.{soFar, firstBytes}
 use Rattle.file.specs.Feeding.{belongs, fedFile, fedReader, fedTable, finishOutcome, finishAnswer, finishTable}
+use Rattle.writing.specs.declared.WriteAnswer.{WriteAnswer}
+use Rattle.writing.specs.declared.WriteAnswer.the-variants as written
 use Rattle.writing.specs.Writing.{writeNumber, outputBy}
 use Rattle.flonterri.specs.Words.{recordWords, wordsOf}
 use Rattle.flonterri.specs.Tells.{Tells, verdictTells, availabilityTells, touchingTells, edgeTells, writeTells, availableTells, fullTickTells}

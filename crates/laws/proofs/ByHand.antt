@@ -32,22 +32,22 @@ use Rattle.timeline.specs.Appending.{appendOutcome}
 use Rattle.timeline.specs.Trimming.{trimOutcome}
 use Rattle.answers.specs.declared.Verdict.{Verdict}
 use Rattle.answers.specs.declared.Verdict.the-variants.{Nothing, Complete, Lacking, Refused}
-use Rattle.lookups.specs.declared.Availability.the-variants as answer
-use Rattle.lookups.specs.Available.{numbered, keptNumber, numberAvailability, availabilityIn}
 use Rattle.answers.specs.Judgement.{verdictOf, verdictAt, verdictWhole}
 use Rattle.answers.specs.Shares.{verdictPercent}
 use Rattle.answers.specs.Ranges.{inRange, verdictBy, pastNamed}
 use Rattle.answers.proofs.Agreed.{first-reach, agreed-verdict}
 use Rattle.answers.proofs.Judging.{all-covered, first-lacking, end-lacking, judge-nothing}
+use Rattle.lookups.specs.declared.Availability.the-variants as answer
+use Rattle.lookups.specs.Available.{numbered, keptNumber, numberAvailability, availabilityIn}
 use Rattle.hex.specs.Digits as hex
 use Rattle.frames.specs.Fields as fields
 use Rattle.frames.specs.Frames as frames
 use Rattle.hex.specs.Ascii.{ascii}
-use Rattle.writing.specs.declared.WriteAnswer.the-variants.{Written, Refused as NotWritten}
 use Rattle.file.specs.Lines.{linesFrom, restFrom}
 use Rattle.file.specs.Least.{leastFrom, leastCount}
 use Rattle.file.specs.Judging as judging
 use Rattle.file.specs.Judging.{readAnswer, readTable}
+use Rattle.writing.specs.declared.WriteAnswer.the-variants.{Written, Refused as NotWritten}
 use Rattle.writing.specs.Writing as writing
 use Rattle.writing.specs.Writing.{fileFor, writeAnswer, writeNumber, outputBy}
 use Rattle.laws.specs.Calls.{State}

@@ -10,10 +10,10 @@ use Rattle.frames.specs.Frames.{isFrame, lineOf, frameOf}
 use Rattle.frames.proofs.Lines.{frame-written-read, line-read-written, read-fits}
 use Rattle.file.specs.Lines.{lineFeed, linesFrom, linesOf, restOf, ended}
 use Rattle.file.specs.Sound.{Narrow}
-use Rattle.writing.specs.Writing.{bytesOf}
-use Rattle.writing.proofs.Back.{unended-line, ended-before}
 use Rattle.file.proofs.Cutting.{line-next, lines-joined}
 use Rattle.file.proofs.Places.{narrow}
+use Rattle.writing.specs.Writing.{bytesOf}
+use Rattle.writing.proofs.Back.{unended-line, ended-before}
 
 pub frames-again : (fs : List Frame) → AllFit fs → map frameOf (linesOf (bytesOf fs)) ≡ fs
 unfolding bytesOf linesFrom

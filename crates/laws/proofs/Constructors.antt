@@ -32,11 +32,11 @@ use Rattle.keeping.specs.Append.{fitOutcome}
 use Rattle.timeline.specs.Opening.{openOutcome, openAnswer}
 use Rattle.timeline.specs.Appending.{unjoined_else_, appendOutcome, appendAnswer}
 use Rattle.timeline.specs.Trimming.{trimAnswer}
+use Rattle.answers.specs.Judgement.{verdictAt}
+use Rattle.answers.specs.Numbers.{verdictNumber}
 use Rattle.lookups.specs.declared.Numbered.the-variants.{Missing}
 use Rattle.lookups.specs.declared.Availability.the-variants as availability
 use Rattle.lookups.specs.declared.AvailableAt.the-variants as at
-use Rattle.answers.specs.Judgement.{verdictAt}
-use Rattle.answers.specs.Numbers.{verdictNumber}
 use Rattle.lookups.specs.Numbers.{availabilityNumber, availableNumber}
 use Rattle.lookups.specs.Available.{keptNumber, numberAvailability, numberAvailable, availabilityIn, availableIn}
 use Rattle.lookups.proofs.Numbering.{number-over}

@@ -16,11 +16,11 @@ use Rattle.timeline.specs.Opening.{openOutcome, openAnswer, openTable, zeroReco
 use Rattle.timeline.specs.Appending.{appendOutcome}
 use Rattle.timeline.specs.Trimming.{trimOutcome}
 use Rattle.answers.specs.Judgement.{verdictAt, verdictWhole}
+use Rattle.answers.specs.Edge.{coveredEdge}
+use Rattle.answers.specs.Numbers.{verdictNumber, edgeNumber}
 use Rattle.lookups.specs.Available.{availabilityIn, availableIn}
 use Rattle.lookups.specs.Stamps.{fullTickIn}
 use Rattle.lookups.specs.Spans.{touchingWords}
-use Rattle.answers.specs.Edge.{coveredEdge}
-use Rattle.answers.specs.Numbers.{verdictNumber, edgeNumber}
 use Rattle.lookups.specs.Numbers.{availabilityNumber, availableNumber, touchingNumber, fullTickNumber}
 use Rattle.writing.specs.Writing.{writeNumber, writeAnswer, fileFor}
 use Rattle.flonterri.specs.Words.{recordOf, headWith}

@@ -1,6 +1,6 @@
 -- Spent by division: the references of a run that have passed stand first, and are as many as the quotient says; and the cases by hand.
-use mathlib.Core.Path.{_≡_, refl, sym, ap, subst, subst⁻¹, _∙_}
-use mathlib.Core.Bool.{Bool, true, false, cond, not, true≢false, _&&_}
+use mathlib.Core.Path.{_≡_, refl, ap, subst, subst⁻¹, _∙_}
+use mathlib.Core.Bool.{Bool, true, false, cond, not, _&&_}
 use mathlib.Core.List.{List, [], _∷_}
 use Prim.Native.Nat.{ℕ, suc, _+_, _-_, _/_, _≤_, min}
 use native.Mathlib.Omega.{arith}
@@ -20,7 +20,7 @@ use Rattle.window.specs.Ticks.{EndsPassed}
 use Rattle.window.specs.Steps.{overBy}
 use Rattle.window.specs.References.{EndToStart, Each, Sound}
 use Rattle.window.proofs.Unsigned.{lowN, low-is}
-use Rattle.window.proofs.Spending.{passed-spent, spent-is}
+use Rattle.window.proofs.Spending.{passed-spent, not-spent}
 use Rattle.window.proofs.Division.{all-at, upto-at}
 use Rattle.runs.specs.Words.{runsOf, wordsOf, repeated, referencesOf}
 use Rattle.runs.specs.Shape.{runsShaped, zeros}
@@ -106,7 +106,7 @@ module _ (h : Head) (c : ℕ) where
           spent = each-as Gone (λ r. Spent h r c) (λ r. passed-spent h r c) (take (countPassed p rs) rs) (first-passed p w s rs join);
           others =
               each-with (Sound h) (λ r. not (passed h (endOf r) c) ≡ true) (λ r. Spent h r c → ⊥)
-              (λ r x e q. true≢false (sym (spent-is h r c rated (x .lasts) (x .begins) .if q) ∙ not-true (passed h (endOf r) c) e))
+              (λ r x e. not-spent h rated c r x (not-true (passed h (endOf r) c) e))
               (drop (countPassed p rs) rs) (each-drop (Sound h) (countPassed p rs) rs sound)
               (each-true (λ r. not (passed h (endOf r) c)) (drop (countPassed p rs) rs) left);
         })

@@ -30,12 +30,12 @@ use Rattle.timeline.specs.Appending.{appendOutcome}
 use Rattle.frames.specs.declared.SFields.{SFields}
 use Rattle.file.specs.declared.Reading.{Reading}
 use Rattle.file.specs.declared.Stage.the-variants.{Filled, Open}
-use Rattle.writing.specs.declared.WriteAnswer.{WriteAnswer}
-use Rattle.writing.specs.declared.WriteAnswer.the-variants.{Written, Refused}
 use Rattle.file.specs.Least.{leastCount}
 use Rattle.file.specs.Judging.{firstNegative, reachOutcome, appendedBy, reachesBy, takeS}
-use Rattle.writing.specs.Writing.{keptHead, fileFor, writeAnswer, outputBy}
 use Rattle.file.proofs.Counts as count
+use Rattle.writing.specs.declared.WriteAnswer.{WriteAnswer}
+use Rattle.writing.specs.declared.WriteAnswer.the-variants.{Written, Refused}
+use Rattle.writing.specs.Writing.{keptHead, fileFor, writeAnswer, outputBy}
 use Rattle.writing.proofs.Stable as stable
 use Rattle.answers.proofs.Counting.{some-of}
 use Rattle.laws.specs.Demand2.{firstKept, Writes, ReadsBack, output, SameKept}

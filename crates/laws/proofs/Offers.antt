@@ -18,6 +18,7 @@ use Rattle.window.specs.Place.{place}
 use Rattle.agreement.specs.declared.Record.{Record}
 use Rattle.agreement.specs.declared.refusal.Refusal.the-variants.{Disagreement, ClockLimit, NotKept}
 use Rattle.agreement.specs.Agreement.{agrees, kept}
+use Rattle.answers.proofs.Counting.{some-of}
 use Rattle.lookups.specs.declared.Availability.the-variants.{Ends, NeverEnds, Refused}
 use Rattle.lookups.specs.declared.AvailableAt.the-variants as at
 use Rattle.lookups.specs.declared.AvailableAt.the-variants.{Yes, No}
@@ -26,7 +27,6 @@ use Rattle.lookups.specs.declared.Numbered.the-variants.{Kept, Missing}
 use Rattle.lookups.specs.Available as available
 use Rattle.lookups.specs.Available.{keptNumber, availabilityOf, numberAvailability, availabilityIn, numberAvailable, availableIn}
 use Rattle.lookups.proofs.Numbering as numbering
-use Rattle.answers.proofs.Counting.{some-of}
 use Rattle.laws.specs.Demand2.{firstKept, wideNumber, grain, startsAt, endsAt, Offered}
 
 -- the reference behind `xs`

@@ -26,6 +26,13 @@ use Rattle.agreement.proofs.Agreeing.{agreeing}
 use Rattle.keeping.specs.declared.Outcome.the-variants.{Refused}
 use Rattle.answers.specs.declared.Verdict.{Verdict}
 use Rattle.answers.specs.declared.Verdict.the-variants as verdict
+use Rattle.answers.specs.Counts.{neededCount, coveredCount, lowestLacking}
+use Rattle.answers.specs.Judgement.{verdictOf, verdictAt, verdictWhole}
+use Rattle.answers.specs.declared.CoveredEdge.{CoveredEdge}
+use Rattle.answers.specs.declared.CoveredEdge.the-variants as edge
+use Rattle.answers.specs.Edge.{atOrBefore, edgeOf, coveredEdge}
+use Rattle.answers.specs.Numbers.{verdictNumber, edgeNumber}
+use Rattle.answers.proofs.Edging.{Latest, latest-right}
 use Rattle.lookups.specs.declared.Availability.the-variants as availability
 use Rattle.lookups.specs.declared.AvailableAt.the-variants as at
 use Rattle.lookups.specs.declared.stamps.FullTick.the-variants as full
@@ -34,16 +41,9 @@ use Rattle.lookups.specs.declared.Touching.{Touching}
 use Rattle.lookups.specs.declared.Touching.the-variants as touching
 use Rattle.lookups.specs.declared.Numbered.{Numbered}
 use Rattle.lookups.specs.declared.Numbered.the-variants.{Kept, Missing}
-use Rattle.answers.specs.Counts.{neededCount, coveredCount, lowestLacking}
-use Rattle.answers.specs.Judgement.{verdictOf, verdictAt, verdictWhole}
 use Rattle.lookups.specs.Available.{numbered, keptNumber, availableFrom, availableUpto, availabilityOf, available, numberAvailability, numberAvailable, availabilityIn, availableIn}
 use Rattle.lookups.specs.Spans.{touches, beforeFirst, uptoLast, touchedWords, touchingWords}
-use Rattle.answers.specs.declared.CoveredEdge.{CoveredEdge}
-use Rattle.answers.specs.declared.CoveredEdge.the-variants as edge
-use Rattle.answers.specs.Edge.{atOrBefore, edgeOf, coveredEdge}
-use Rattle.answers.specs.Numbers.{verdictNumber, edgeNumber}
 use Rattle.lookups.specs.Numbers.{availabilityNumber, availableNumber, touchingNumber, fullTickNumber}
-use Rattle.answers.proofs.Edging.{Latest, latest-right}
 use Rattle.writing.specs.declared.WriteAnswer.the-variants as written
 use Rattle.writing.specs.Writing.{fileFor, writeAnswer, writeNumber}
 use Rattle.laws.specs.Refusals.{lowest, some, notKept, Refusals, verdictRows, wholeRows, availabilityRows, availableRows, touchingRows, writeRows, fullTickRows, edgeRows}

@@ -23,13 +23,13 @@ use Rattle.keeping.specs.Keeping.{outcomeNumber}
 use Rattle.timeline.specs.Opening.{openAnswer}
 use Rattle.answers.specs.declared.Verdict.the-variants.{Nothing, Complete, Lacking}
 use Rattle.answers.specs.declared.Percent.the-variants.{Of}
-use Rattle.lookups.specs.declared.Availability.the-variants.{Ends, NeverEnds}
 use Rattle.answers.specs.Judgement.{verdictAt, verdictWhole}
 use Rattle.answers.specs.Shares.{verdictPercent}
+use Rattle.lookups.specs.declared.Availability.the-variants.{Ends, NeverEnds}
 use Rattle.lookups.specs.Available.{availabilityIn}
 use Rattle.hex.specs.Ascii.{ascii}
-use Rattle.writing.specs.declared.WriteAnswer.the-variants.{Written}
 use Rattle.file.specs.Judging.{readAnswer, readTable}
+use Rattle.writing.specs.declared.WriteAnswer.the-variants.{Written}
 use Rattle.writing.specs.Writing.{writeAnswer, writeNumber}
 use Rattle.flonterri.specs.Words.{headWith}
 use Rattle.laws.specs.Calls.{State, opening, byTick, byStamp, trimAt, after, outcomeOf}

@@ -25,8 +25,8 @@ use Rattle.timeline.specs.Opening.{openAnswer}
 use Rattle.timeline.specs.Appending.{appendAnswer}
 use Rattle.timeline.specs.Trimming.{trimAnswer}
 use Rattle.answers.specs.Judgement.{verdictAt}
-use Rattle.lookups.specs.Available.{availabilityIn, availableIn}
 use Rattle.answers.specs.Numbers.{verdictNumber}
+use Rattle.lookups.specs.Available.{availabilityIn, availableIn}
 use Rattle.lookups.specs.Numbers.{availabilityNumber, availableNumber}
 use Rattle.laws.specs.Refusals.{lowest}
 

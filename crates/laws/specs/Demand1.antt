@@ -21,13 +21,13 @@ use Rattle.keeping.specs.declared.Changed.{Changed}
 use Rattle.keeping.specs.Keeping.{outcomeNumber}
 use Rattle.timeline.specs.Opening.{zeroRecord}
 use Rattle.answers.specs.declared.Verdict.the-variants.{Refused as VerdictRefused}
+use Rattle.answers.specs.Numbers.{verdictNumber, edgeNumber}
+use Rattle.answers.specs.declared.CoveredEdge.the-variants.{Refused as EdgeRefused}
 use Rattle.lookups.specs.declared.Availability.the-variants.{Refused as AvailabilityRefused}
 use Rattle.lookups.specs.declared.AvailableAt.the-variants.{Refused as AvailableRefused}
 use Rattle.lookups.specs.declared.stamps.FullTick.the-variants.{Refused as FullTickRefused}
 use Rattle.lookups.specs.declared.Touching.the-variants.{Refused as TouchingRefused}
-use Rattle.answers.specs.Numbers.{verdictNumber, edgeNumber}
 use Rattle.lookups.specs.Numbers.{availabilityNumber, availableNumber, touchingNumber, fullTickNumber}
-use Rattle.answers.specs.declared.CoveredEdge.the-variants.{Refused as EdgeRefused}
 use Rattle.file.specs.declared.Reader.{Reader}
 use Rattle.file.specs.declared.ReadAnswer.{ReadAnswer}
 use Rattle.file.specs.Feeding.{belongs}

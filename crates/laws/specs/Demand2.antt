@@ -34,19 +34,19 @@ use Rattle.keeping.specs.Keeping.{wordsKeeping}
 use Rattle.keeping.specs.Append.{fitOutcome}
 use Rattle.answers.specs.declared.Verdict.the-variants as verdict
 use Rattle.answers.specs.declared.Percent.the-variants.{Of}
-use Rattle.lookups.specs.declared.Availability.the-variants as availability
-use Rattle.lookups.specs.declared.AvailableAt.the-variants as at
 use Rattle.answers.specs.Cover.{coveredBy}
 use Rattle.answers.specs.Counts.{countBelow}
 use Rattle.answers.specs.Judgement.{verdictAt, verdictWhole, Whole, Lowest}
 use Rattle.answers.specs.Shares.{verdictPercent}
+use Rattle.lookups.specs.declared.Availability.the-variants as availability
+use Rattle.lookups.specs.declared.AvailableAt.the-variants as at
 use Rattle.lookups.specs.Available.{availabilityIn, availableIn}
 use Rattle.frames.specs.declared.SFields.{SFields}
 use Rattle.file.specs.declared.Reading.{Reading}
 use Rattle.file.specs.declared.Stage.the-variants.{Filled}
-use Rattle.writing.specs.declared.WriteAnswer.the-variants.{Written}
 use Rattle.file.specs.Least.{leastCount}
 use Rattle.file.specs.Judging.{firstNegative, appendedBy, takeS, readAnswer, readTable}
+use Rattle.writing.specs.declared.WriteAnswer.the-variants.{Written}
 use Rattle.writing.specs.Writing.{fileFor, writeAnswer, outputBy, readBack}
 
 -- ---- verdicts

@@ -28,11 +28,11 @@ use Rattle.timeline.specs.Opening.{openAnswer}
 use Rattle.timeline.specs.Appending.{appendAnswer}
 use Rattle.timeline.specs.Trimming.{trimAnswer}
 use Rattle.answers.specs.Judgement.{verdictAt, verdictWhole}
+use Rattle.answers.specs.Edge.{coveredEdge}
+use Rattle.answers.specs.Numbers.{verdictNumber, edgeNumber}
 use Rattle.lookups.specs.Available.{availabilityIn, availableIn}
 use Rattle.lookups.specs.Stamps.{fullTickIn}
 use Rattle.lookups.specs.Spans.{touchingWords}
-use Rattle.answers.specs.Edge.{coveredEdge}
-use Rattle.answers.specs.Numbers.{verdictNumber, edgeNumber}
 use Rattle.lookups.specs.Numbers.{availabilityNumber, availableNumber, touchingNumber, fullTickNumber}
 use Rattle.writing.specs.Writing.{fileFor, writeAnswer, writeNumber}
 

@@ -109,24 +109,23 @@ pub record Entries : Type 0 where
   pub percent : Entry answers.shares.percent.Reads.Asked answers.shares.percent.Reads.Learnt
   pub verdict-percent : Entry answers.Verdict.percent.Reads.Asked answers.Verdict.percent.Reads.Learnt
   pub percent-number : Entry answers.Percent.number.Reads.Asked answers.Percent.number.Reads.Learnt
+  pub covered-edge : Entry answers.edges.covered_edge.Reads.Asked answers.edges.covered_edge.Reads.Learnt
+  pub verdict-number : Entry answers.Verdict.number.Reads.Asked answers.Verdict.number.Reads.Learnt
+  pub edge-number : Entry answers.CoveredEdge.number.Reads.Asked answers.CoveredEdge.number.Reads.Learnt
+  -- lookups
   pub availability : Entry lookups.times.availability.Reads.Asked lookups.times.availability.Reads.Learnt
   pub available-at : Entry lookups.times.available_at.Reads.Asked lookups.times.available_at.Reads.Learnt
   pub full-tick : Entry lookups.stamps.full_tick.Reads.Asked lookups.stamps.full_tick.Reads.Learnt
   pub touching-words : Entry lookups.spans.touching_words.Reads.Asked lookups.spans.touching_words.Reads.Learnt
-  pub covered-edge : Entry answers.edges.covered_edge.Reads.Asked answers.edges.covered_edge.Reads.Learnt
-  pub verdict-number : Entry answers.Verdict.number.Reads.Asked answers.Verdict.number.Reads.Learnt
   pub availability-number : Entry lookups.Availability.number.Reads.Asked lookups.Availability.number.Reads.Learnt
   pub available-number : Entry lookups.AvailableAt.number.Reads.Asked lookups.AvailableAt.number.Reads.Learnt
   pub full-tick-number : Entry lookups.stamps.FullTick.number.Reads.Asked lookups.stamps.FullTick.number.Reads.Learnt
   pub touching-number : Entry lookups.Touching.number.Reads.Asked lookups.Touching.number.Reads.Learnt
-  pub edge-number : Entry answers.CoveredEdge.number.Reads.Asked answers.CoveredEdge.number.Reads.Learnt
   -- the part handed back, by its words
   pub touching-any : AnyInput lookups.spans.touching.Reads.Asked
   pub touching : OnePart lookups.spans.touching.Reads.Learnt
   -- file
   pub read : Lending file.read.Reads.Asked file.read.Reads.Learnt table
-  pub write : Lending writing.write.Reads.Asked writing.write.Reads.Learnt out
-  pub write-number : Entry writing.WriteAnswer.number.Reads.Asked writing.WriteAnswer.number.Reads.Learnt
   pub line-end : Entry file.line_end.Reads.Asked file.line_end.Reads.Learnt
   pub line-none : Entry file.LineSoFar.none.Reads.Asked file.LineSoFar.none.Reads.Learnt
   pub line-len : Entry file.LineSoFar.len.Reads.Asked file.LineSoFar.len.Reads.Learnt
@@ -136,6 +135,9 @@ pub record Entries : Type 0 where
   pub feed : Lending file.feed.Reads.Asked file.feed.Reads.Learnt table
   pub settled : Entry file.settled.Reads.Asked file.settled.Reads.Learnt
   pub finish : Lending file.finish.Reads.Asked file.finish.Reads.Learnt table
+  -- writing
+  pub write : Lending writing.write.Reads.Asked writing.write.Reads.Learnt out
+  pub write-number : Entry writing.WriteAnswer.number.Reads.Asked writing.WriteAnswer.number.Reads.Learnt
   -- report
   pub desk-begins : Entry report.begin.Reads.Asked report.begin.Reads.Learnt
   pub desk-feed : Lending report.feed.Reads.Asked report.feed.Reads.Learnt table

@@ -192,7 +192,7 @@ module _ (h : Head) where
       go false q = refl
 
   module _ (rated : 1 ≤ h .timescale .0) (c : ℕ) where
-    not-spent : (r : Reference) → Sound h r → passed h (endOf r) c ≡ false → Spent h r c → ⊥
+    pub not-spent : (r : Reference) → Sound h r → passed h (endOf r) c ≡ false → Spent h r c → ⊥
     not-spent r s p q = true≢false (sym (spent-is r c rated (s .lasts) (s .begins) .if q) ∙ p)
 
     -- after one that is not spent, none is

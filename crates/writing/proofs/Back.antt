@@ -39,8 +39,8 @@ use Rattle.file.specs.declared.Stage.the-variants.{Nothing, Headed, Open, Ended
 use Rattle.file.specs.declared.Reading.{Reading}
 use Rattle.file.specs.Lines.{lineFeed, linesFrom, restFrom, Unended}
 use Rattle.file.specs.Judging.{File, taken, refused, settledReading, firstTick, firstNegative, appendedBy, reachesBy, takeS, openedBy, takeFirstS, takeHead, takeEnd, onNothing, onHeaded, onOpen, onFrame, takeLine, takeLines, begun}
-use Rattle.writing.specs.Writing.{sFrame, laterFrames, sFrames, bytesOf}
 use Rattle.file.proofs.Cutting.{line-next, rest-next}
+use Rattle.writing.specs.Writing.{sFrame, laterFrames, sFrames, bytesOf}
 use Rattle.writing.proofs.Output.{run-few}
 use Rattle.writing.proofs.Again.{recordOf, Takeable, step-accepted, step-record, step-words}
 

@@ -35,12 +35,12 @@ use Rattle.frames.specs.Frames.{Fits}
 use Rattle.file.specs.declared.Stage.the-variants.{Ended}
 use Rattle.file.specs.Lines.{restOf}
 use Rattle.file.specs.Judging.{File, begun, readLines, stopOutcome, readOutcome, answeredBy, readAnswer, zeroed, readTable}
+use Rattle.file.proofs.Accepted.{read-agrees, read-length}
 use Rattle.writing.specs.Writing.{withFirst, laterFrames, sFrames, bytesOf, fileOf, keptHead, fileFor, readBack}
 use Rattle.writing.proofs.Output.{s-fits}
 use Rattle.writing.proofs.Whole.{kept-few, head-fits, end-fits}
 use Rattle.writing.proofs.Again.{recordOf, Takeable}
 use Rattle.writing.proofs.Back.{lines-of-frames, rest-of-frames, frames-taken}
-use Rattle.file.proofs.Accepted.{read-agrees, read-length}
 
 -- ---- the number of the first changes no rule of time
 

@@ -1,6 +1,6 @@
 -- `available_at` meets its contract: the refusals in their order, then the reference that was found.
 use borrow.Author.Needs.{needs}
-use mathlib.Core.Path.{ap, ap₂, _∙_}
+use mathlib.Core.Path.{ap₂, _∙_}
 use Rattle.units.proofs.Guards.{told, refused, allowed}
 use Rattle.units.proofs.Makers.{clock-over, clock-is, clock-held, clock-made}
 use Rattle.agreement.proofs.Agreeing.{agree-head, agree-within}
