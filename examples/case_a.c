@@ -71,8 +71,8 @@ static void read_again(const uint8_t *bytes, size_t byte_count)
 int main(void)
 {
     static uint64_t table[TABLE_WORDS];
-    /* timescale, offset, start, duration, depth (none), first number */
-    const struct flonterri_head head = {10, 100, 30000, 10000, 0, 0};
+    /* timescale, offset, start, duration, depth (none), first number, update period (none) */
+    const struct flonterri_head head = {10, 100, 30000, 10000, 0, 0, 0};
     struct flonterri_timeline timeline;
     uint8_t bytes[FILE_BYTES] = {0};
     size_t length = 0;

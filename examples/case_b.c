@@ -1,4 +1,5 @@
-/* Case B of the paper: five references of 4000 ticks at timescale 1000, behind a window of 10 seconds.
+/* Case B of the paper: five references of 4000 ticks at timescale 1000, behind a window of 10 seconds. Then the
+ * same with an update period of two seconds, which the references must cover past the clock too.
  * What it must print stands in case_b.txt. */
 #include <inttypes.h>
 #include <stdint.h>
@@ -103,13 +104,37 @@ static void file(void)
     fwrite(bytes, 1, length, stdout);
 }
 
+/* Opens with a head, and appends the five references. */
+static void five_references(const struct flonterri_head *head)
+{
+    show("open", flonterri_timeline_open(&timeline, table, TABLE_WORDS, head, 0));
+    show("append", flonterri_timeline_append(&timeline, 0, 4000, 5));
+}
+
+/* A player that took the manifest at 18 seconds asks for no other before 20: the references just reach so far.
+ * A millisecond later a tick is missing. */
+static void with_update_period(struct flonterri_head head)
+{
+    head.update = 2000;
+    printf("update period %" PRIu64 "\n", head.update);
+    five_references(&head);
+    verdict(0);
+    verdict(14000);
+    verdict(18000);
+    verdict(18001);
+    edge();
+    trim(13999);
+    trim(14000);
+    trim(18000);
+    file();
+}
+
 int main(void)
 {
-    /* what is not named is 0: the end is unknown */
+    /* what is not named is 0: the end is unknown, and the window ends at the clock */
     const struct flonterri_head head = {.timescale = 1000, .depth = 10000, .first_number = 1};
 
-    show("open", flonterri_timeline_open(&timeline, table, TABLE_WORDS, &head, 0));
-    show("append", flonterri_timeline_append(&timeline, 0, 4000, 5));
+    five_references(&head);
     verdict(0);
     verdict(14000);
     verdict(20001);
@@ -122,5 +147,6 @@ int main(void)
     verdict(14000);
     show("append by stamp", flonterri_timeline_append_stamp(&timeline, 20001, 4000, 1));
     file();
+    with_update_period(head);
     return 0;
 }

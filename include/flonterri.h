@@ -12,9 +12,12 @@
  * - while a call runs no other thread touches what it may change, or writes to what it reads.
  *
  * The limits. A timescale is 1 to 10,000,000 ticks a second. A tick is at most 2^52 - 1. Period start,
- * duration, window depth and clock are whole milliseconds, at most 100,000,000,000. A duration of 0
- * means that the period end is unknown, a depth of 0 that no window depth is given. A grain is
- * 1/(1000 x timescale) second.
+ * duration, window depth, update period and clock are whole milliseconds, at most 100,000,000,000. A
+ * duration of 0 means that the period end is unknown, a depth of 0 that no window depth is given. A grain
+ * is 1/(1000 x timescale) second.
+ *
+ * The update period is how long a player may go by a manifest before it asks for the next: the window
+ * reaches so far past the clock. Where it is 0 the window ends at the clock.
  *
  * flonterri_timeline.h has the same calls over one struct, without the lengths that never change.
  */
@@ -30,7 +33,7 @@ extern "C" {
 
 /* How many words a record has, and a run of the table: its start, its duration, its count. A table of
  * n words holds n / 3 runs. */
-#define FLONTERRI_RECORD_WORDS 11
+#define FLONTERRI_RECORD_WORDS 12
 #define FLONTERRI_RUN_WORDS 3
 
 /* How many words out must have, for each function that takes it. */
@@ -51,11 +54,12 @@ enum flonterri_record_word {
     FLONTERRI_DURATION = 3,
     FLONTERRI_DEPTH = 4,
     FLONTERRI_FIRST_NUMBER = 5,
-    FLONTERRI_ACCEPTED = 6,
-    FLONTERRI_DROPPED = 7,
-    FLONTERRI_NEXT_TICK = 8,
-    FLONTERRI_GREATEST_CLOCK = 9,
-    FLONTERRI_RUNS_USED = 10
+    FLONTERRI_UPDATE_PERIOD = 6,
+    FLONTERRI_ACCEPTED = 7,
+    FLONTERRI_DROPPED = 8,
+    FLONTERRI_NEXT_TICK = 9,
+    FLONTERRI_GREATEST_CLOCK = 10,
+    FLONTERRI_RUNS_USED = 11
 };
 
 /* Where each word of a run stands, counted from its first. */
@@ -134,12 +138,12 @@ enum flonterri_edge_kind {
 };
 
 /* What a function answers. Where several numbers apply to a call, it answers the lowest; a file's
- * lines have an order of their own. Before all else a record that is not of 11 words is 2, and then an
+ * lines have an order of their own. Before all else a record that is not of 12 words is 2, and then an
  * out that is not of its length is 15. */
 enum flonterri_refusal {
     FLONTERRI_OK = 0,              /* the call is accepted */
     FLONTERRI_OVER_LIMIT = 1,      /* a head field, the first tick or the offset over its limit, or timescale 0 */
-    FLONTERRI_DISAGREEMENT = 2,    /* record and table disagree, or the record is not of 11 words */
+    FLONTERRI_DISAGREEMENT = 2,    /* record and table disagree, or the record is not of 12 words */
     FLONTERRI_NOTHING_GIVEN = 3,   /* duration or count 0 */
     FLONTERRI_GAP = 4,             /* the start lies after the next tick */
     FLONTERRI_OVERLAP = 5,         /* the start lies before the next tick */
@@ -160,11 +164,12 @@ enum flonterri_refusal {
     FLONTERRI_END_UNKNOWN = 19     /* a whole-period verdict, and no known period end */
 };
 
-/* Opens a timeline: writes the record, and zeroes the table. Refusals 1, 2. Refused with 1 it zeroes the
- * record and leaves the table as it came; refused with 2 it changes nothing. No null. */
+/* Opens a timeline: writes the record, and zeroes the table. update is the update period. Refusals 1, 2.
+ * Refused with 1 it zeroes the record and leaves the table as it came; refused with 2 it changes nothing.
+ * No null. */
 uint32_t flonterri_open(uint64_t *record, size_t record_words, uint64_t *table, size_t table_words,
                         uint32_t timescale, uint64_t offset, uint64_t start, uint64_t duration, uint64_t depth,
-                        uint32_t first_number, uint64_t first_tick);
+                        uint32_t first_number, uint64_t update, uint64_t first_tick);
 
 /* Appends count references of duration ticks each, from start on, a full tick, which must be the next
  * tick. Those that are spent already are counted as dropped and not stored. Refusals 2 to 9. Changes
@@ -178,13 +183,16 @@ uint32_t flonterri_append(uint64_t *record, size_t record_words, uint64_t *table
 uint32_t flonterri_append_stamp(uint64_t *record, size_t record_words, uint64_t *table, size_t table_words,
                                 uint32_t stamp, uint32_t duration, uint32_t count);
 
-/* Raises the greatest clock, unless it is greater already, and drops the references that are spent then.
- * Refusals 2, 10. Changes record and table; refused it changes nothing. No null. */
+/* Raises the greatest clock, unless it is greater already, and drops the references that are spent then. The
+ * update period plays no part in it. Refusals 2, 10. Changes record and table; refused it changes nothing.
+ * No null. */
 uint32_t flonterri_trim(uint64_t *record, size_t record_words, uint64_t *table, size_t table_words, uint64_t clock);
 
-/* The verdict at a clock. out has 5 words, as flonterri_verdict_word names them. What does not apply is 0;
- * where the kind is complete, covered is needed and percent is 100. Refusals 2, 10, 11, and 15 for out.
- * Changes out alone; refused it changes nothing. No null. */
+/* The verdict at a clock. The window ends at the clock plus the update period, or with the period if that is
+ * earlier; the sum may pass the limit of milliseconds. out has 5 words, as flonterri_verdict_word names them.
+ * What does not apply is 0; where the kind is complete, covered is needed and percent is 100. Refusals 2, 10,
+ * 11, and 15 for out; 10 and 11 go by the clock alone. Changes out alone; refused it changes nothing.
+ * No null. */
 uint32_t flonterri_verdict(const uint64_t *record, size_t record_words, const uint64_t *table, size_t table_words,
                            uint64_t clock, uint64_t *out, size_t out_words);
 
@@ -222,26 +230,27 @@ uint32_t flonterri_touching(const uint64_t *record, size_t record_words, const u
                             uint64_t a, uint64_t b, uint64_t *out, size_t out_words);
 
 /* The covered edge: the latest clock, within its limit, at which the window's upper edge is at or before the
- * next tick. At a later clock whose window is not empty no verdict is complete: references are missing at its
- * end. It is the limit where the next tick reaches a known period end, and there is none where the upper edge
- * lies after the next tick at clock 0 already. It does not say that a verdict is complete up to it: it knows
- * nothing of the lower edge, where older references may be missing. And it may lie before the greatest clock,
- * where a verdict is 11. It stands still where a packager has stopped: compare it with now, and ask and trim
- * at the earlier of the two. out has 2 words, as flonterri_edge_word names them; where there is no edge, both
- * are 0. Refusals 2, and 15 for out. Changes out alone; refused it changes nothing. No null. */
+ * next tick; the upper edge lies the update period past the clock. At a later clock whose window is not empty no
+ * verdict is complete: references are missing at its end. It is the limit where the next tick reaches a known
+ * period end, and there is none where the upper edge lies after the next tick at clock 0 already. It does not say
+ * that a verdict is complete up to it: it knows nothing of the lower edge, where older references may be missing.
+ * And it may lie before the greatest clock, where a verdict is 11. It stands still where a packager has stopped:
+ * compare it with now, and ask and trim at the earlier of the two. out has 2 words, as flonterri_edge_word names
+ * them; where there is no edge, both are 0. Refusals 2, and 15 for out. Changes out alone; refused it changes
+ * nothing. No null. */
 uint32_t flonterri_covered_edge(const uint64_t *record, size_t record_words, const uint64_t *table,
                                 size_t table_words, uint64_t *out, size_t out_words);
 
-/* Reads a whole file into record and table, as opening plus appends. out has 1 word: the refused line, counted
- * from 1, or 0 where the file is accepted. Refusals 1, 3 to 9, 16, 17, 18. Refused so, it zeroes record and
- * table and puts the line into out; refused with 2 for the record's length or 15 for out it changes nothing.
- * No null. */
+/* Reads a whole file into record and table, as opening plus appends. A head of kind 01 has no update period, and
+ * is read with 0. out has 1 word: the refused line, counted from 1, or 0 where the file is accepted. Refusals 1,
+ * 3 to 9, 16, 17, 18. Refused so, it zeroes record and table and puts the line into out; refused with 2 for the
+ * record's length or 15 for out it changes nothing. No null. */
 uint32_t flonterri_read(const uint8_t *bytes, size_t byte_count, uint64_t *record, size_t record_words,
                         uint64_t *table, size_t table_words, uint64_t *out, size_t out_words);
 
-/* Writes the whole file of what record and table keep. out has 1 word: how many bytes were written; those
- * behind them stay as they came. Refusals 2, 12, 15. Changes bytes and out; refused it changes nothing.
- * No null. */
+/* Writes the whole file of what record and table keep: 110 bytes, and 35 for each used run. Its head is of kind
+ * 05, also where the update period is 0. out has 1 word: how many bytes were written; those behind them stay as
+ * they came. Refusals 2, 12, 15. Changes bytes and out; refused it changes nothing. No null. */
 uint32_t flonterri_write(const uint64_t *record, size_t record_words, const uint64_t *table, size_t table_words,
                          uint8_t *bytes, size_t byte_count, uint64_t *out, size_t out_words);
 

@@ -48,6 +48,7 @@ struct flonterri_head {
     uint64_t duration;     /* period duration, in milliseconds; 0: the end is unknown */
     uint64_t depth;        /* window depth, in milliseconds; 0: none is given */
     uint32_t first_number; /* the number of the first reference */
+    uint64_t update;       /* update period, in milliseconds: how far past the clock the window reaches */
 };
 
 /* A verdict. What does not apply is 0. */
@@ -109,7 +110,8 @@ static inline uint32_t flonterri_timeline_open(struct flonterri_timeline *timeli
 {
     *timeline = flonterri_timeline_over(table, table_words);
     return flonterri_open(timeline->record, FLONTERRI_RECORD_WORDS, table, table_words, head->timescale,
-                          head->offset, head->start, head->duration, head->depth, head->first_number, first_tick);
+                          head->offset, head->start, head->duration, head->depth, head->first_number,
+                          head->update, first_tick);
 }
 
 /* Appends count references of duration ticks each, from a full tick on. Refusals 2 to 9. */

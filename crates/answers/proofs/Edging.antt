@@ -3,7 +3,7 @@
 use mathlib.Core.Path.{_≡_, refl, sym, ap, subst, _∙_}
 use mathlib.Core.Bool.{Bool, true, false, cond, not, true≢false}
 use Prim.Native.Nat.{ℕ, zero, suc, _+_, _-_, _*_, _/_, _≤_, _<_}
-use native.Mathlib.Nat.{zero-add, le-antisymm, le-div-iff-mul-le, div-lt-iff-lt-mul}
+use native.Mathlib.Nat.{add-mul, zero-add, le-antisymm, le-div-iff-mul-le, div-lt-iff-lt-mul}
 use native.Mathlib.Omega.{arith}
 use borrow.Author.Tests.{ltb-true, ltb-false, leb-true, leb-false, le-leb, lt-leb, not-true, not-false}
 use lib.Dec.{leb, ltb}
@@ -84,40 +84,44 @@ module _ (p : ℕ → Bool) where
 -- ---- the upper edge against a tick
 
 module _ (h : Head) (k : ℕ) where
-  clock-is : (c : ℕ) → Is (moment h (pos c)) (c * h .timescale .0) (h .start .0 * h .timescale .0)
-  clock-is c = subst (λ (n : ℕ). Is (moment h (pos c)) (c * h .timescale .0) (n * h .timescale .0)) (zero-add (h .start .0)) (moment-is h (pos c) c 0 (is-pos c))
+  -- where the upper edge would be without a period end, in milliseconds
+  abbrev ahead : ℕ → ℕ
+  ahead c = c + h .update .0
+
+  clock-is : (m : ℕ) → Is (moment h (pos m)) (m * h .timescale .0) (h .start .0 * h .timescale .0)
+  clock-is m = subst (λ (n : ℕ). Is (moment h (pos m)) (m * h .timescale .0) (n * h .timescale .0)) (zero-add (h .start .0)) (moment-is h (pos m) m 0 (is-pos m))
 
   end-is : Is (periodEnd h) (endAt h) 0
   unfolding periodEnd
   end-is = is-pos (endAt h)
 
-  clock-side : (c : ℕ) → leZ (moment h (pos c)) (place h k) ≡ leb (c * h .timescale .0 + h .offset .0 * 1000) (k * 1000 + h .start .0 * h .timescale .0)
+  clock-side : (c : ℕ) → leZ (moment h (pos (ahead c))) (place h k) ≡ leb (ahead c * h .timescale .0 + h .offset .0 * 1000) (k * 1000 + h .start .0 * h .timescale .0)
   clock-side c =
-      le-is (moment h (pos c)) (place h k) (c * h .timescale .0) (h .start .0 * h .timescale .0) (k * 1000) (h .offset .0 * 1000) (clock-is c) (place-is h k)
+      le-is (moment h (pos (ahead c))) (place h k) (ahead c * h .timescale .0) (h .start .0 * h .timescale .0) (k * 1000) (h .offset .0 * 1000) (clock-is (ahead c)) (place-is h k)
 
   end-side : leZ (periodEnd h) (place h k) ≡ leb (endAt h + h .offset .0 * 1000) (k * 1000 + 0)
   end-side = le-is (periodEnd h) (place h k) (endAt h) 0 (k * 1000) (h .offset .0 * 1000) end-is (place-is h k)
 
-  end-clock : (c : ℕ) → leZ (periodEnd h) (moment h (pos c)) ≡ leb (endAt h + h .start .0 * h .timescale .0) (c * h .timescale .0 + 0)
+  end-clock : (c : ℕ) → leZ (periodEnd h) (moment h (pos (ahead c))) ≡ leb (endAt h + h .start .0 * h .timescale .0) (ahead c * h .timescale .0 + 0)
   end-clock c =
-      le-is (periodEnd h) (moment h (pos c)) (endAt h) 0 (c * h .timescale .0) (h .start .0 * h .timescale .0) end-is (clock-is c)
+      le-is (periodEnd h) (moment h (pos (ahead c))) (endAt h) 0 (ahead c * h .timescale .0) (h .start .0 * h .timescale .0) end-is (clock-is (ahead c))
 
   -- a tick that lies before the period end: the clock decides
-  pub by-clock : (c : ℕ) → beforeEnd h k ≡ true → atOrBefore h k c ≡ leb (c * h .timescale .0 + h .offset .0 * 1000) (k * 1000 + h .start .0 * h .timescale .0)
+  pub by-clock : (c : ℕ) → beforeEnd h k ≡ true → atOrBefore h k c ≡ leb (ahead c * h .timescale .0 + h .offset .0 * 1000) (k * 1000 + h .start .0 * h .timescale .0)
   unfolding highEdge
   by-clock c b = go (endKnown h) (sym (before-is h k) ∙ b) ∙ clock-side c
     where
-      cut : k * 1000 < h .offset .0 * 1000 + endAt h → (s : Bool) → leZ (periodEnd h) (moment h (pos c)) ≡ s →
-          leZ (cond s (periodEnd h) (moment h (pos c))) (place h k) ≡ leZ (moment h (pos c)) (place h k)
+      cut : k * 1000 < h .offset .0 * 1000 + endAt h → (s : Bool) → leZ (periodEnd h) (moment h (pos (ahead c))) ≡ s →
+          leZ (cond s (periodEnd h) (moment h (pos (ahead c)))) (place h k) ≡ leZ (moment h (pos (ahead c))) (place h k)
       cut l true e =
-          let m : endAt h + h .start .0 * h .timescale .0 ≤ c * h .timescale .0 + 0 = leb-true _ _ (sym (end-clock c) ∙ e) in
+          let m : endAt h + h .start .0 * h .timescale .0 ≤ ahead c * h .timescale .0 + 0 = leb-true _ _ (sym (end-clock c) ∙ e) in
           end-side ∙ lt-leb (endAt h + h .offset .0 * 1000) (k * 1000 + 0) (omega arith) ∙
-          sym (clock-side c ∙ lt-leb (c * h .timescale .0 + h .offset .0 * 1000) (k * 1000 + h .start .0 * h .timescale .0) (omega arith))
+          sym (clock-side c ∙ lt-leb (ahead c * h .timescale .0 + h .offset .0 * 1000) (k * 1000 + h .start .0 * h .timescale .0) (omega arith))
       cut l false e = refl
 
       go : (t : Bool) → cond t (ltb (k * 1000) (h .offset .0 * 1000 + endAt h)) true ≡ true →
-          leZ (cond t (earlier (periodEnd h) (moment h (pos c))) (moment h (pos c))) (place h k) ≡ leZ (moment h (pos c)) (place h k)
-      go true e = cut (ltb-true (k * 1000) (h .offset .0 * 1000 + endAt h) e) (leZ (periodEnd h) (moment h (pos c))) refl
+          leZ (cond t (earlier (periodEnd h) (moment h (pos (ahead c)))) (moment h (pos (ahead c)))) (place h k) ≡ leZ (moment h (pos (ahead c))) (place h k)
+      go true e = cut (ltb-true (k * 1000) (h .offset .0 * 1000 + endAt h) e) (leZ (periodEnd h) (moment h (pos (ahead c)))) refl
       go false e = refl
 
   -- a tick that reaches a known period end: no upper edge lies after it
@@ -125,16 +129,16 @@ module _ (h : Head) (k : ℕ) where
   unfolding highEdge
   by-end c b = go (endKnown h) (sym (before-is h k) ∙ b)
     where
-      cut : h .offset .0 * 1000 + endAt h ≤ k * 1000 → (s : Bool) → leZ (periodEnd h) (moment h (pos c)) ≡ s →
-          leZ (cond s (periodEnd h) (moment h (pos c))) (place h k) ≡ true
+      cut : h .offset .0 * 1000 + endAt h ≤ k * 1000 → (s : Bool) → leZ (periodEnd h) (moment h (pos (ahead c))) ≡ s →
+          leZ (cond s (periodEnd h) (moment h (pos (ahead c)))) (place h k) ≡ true
       cut l true e = end-side ∙ le-leb (endAt h + h .offset .0 * 1000) (k * 1000 + 0) (omega arith)
       cut l false e =
-          let m : c * h .timescale .0 + 0 < endAt h + h .start .0 * h .timescale .0 = leb-false _ _ (sym (end-clock c) ∙ e) in
-          clock-side c ∙ le-leb (c * h .timescale .0 + h .offset .0 * 1000) (k * 1000 + h .start .0 * h .timescale .0) (omega arith)
+          let m : ahead c * h .timescale .0 + 0 < endAt h + h .start .0 * h .timescale .0 = leb-false _ _ (sym (end-clock c) ∙ e) in
+          clock-side c ∙ le-leb (ahead c * h .timescale .0 + h .offset .0 * 1000) (k * 1000 + h .start .0 * h .timescale .0) (omega arith)
 
       go : (t : Bool) → cond t (ltb (k * 1000) (h .offset .0 * 1000 + endAt h)) true ≡ false →
-          leZ (cond t (earlier (periodEnd h) (moment h (pos c))) (moment h (pos c))) (place h k) ≡ true
-      go true e = cut (ltb-false (k * 1000) (h .offset .0 * 1000 + endAt h) e) (leZ (periodEnd h) (moment h (pos c))) refl
+          leZ (cond t (earlier (periodEnd h) (moment h (pos (ahead c)))) (moment h (pos (ahead c)))) (place h k) ≡ true
+      go true e = cut (ltb-false (k * 1000) (h .offset .0 * 1000 + endAt h) e) (leZ (periodEnd h) (moment h (pos (ahead c)))) refl
       go false e = absurd (true≢false e)
 
 -- ---- what the code answers
@@ -145,29 +149,39 @@ module _ (h : Head) (k : ℕ) (t : Bool) (b : t ≡ beforeEnd h k) where
       right-is (atOrBefore h k) largestMillis (At (record { 0 = largestMillis }))
       (omega arith, by-end h k largestMillis (sym b ∙ not-true t n), λ j l m. let z : ⊥ = omega arith in absurd z)
 
-  module _ (n : not t ≡ false) (s p z : ℕ) (i j l : ℕ) (x : Product s (h .start .0) (h .timescale .0) i) (y : Product p k 1000 j)
-      (o : Product z (h .offset .0) 1000 l) where
-    side : (c : ℕ) → atOrBefore h k c ≡ leb (c * h .timescale .0 + h .offset .0 * 1000) (k * 1000 + h .start .0 * h .timescale .0)
+  module _ (n : not t ≡ false) (s p o a : ℕ) (i j l m : ℕ) (x : Product s (h .start .0) (h .timescale .0) i) (y : Product p k 1000 j)
+      (v : Product o (h .offset .0) 1000 l) (w : Product a (h .update .0) (h .timescale .0) m) where
+    -- what a clock is held against, moved on by the offset and the update period
+    abbrev z : ℕ
+    z = o + a
+
+    side : (c : ℕ) → atOrBefore h k c ≡ leb ((c + h .update .0) * h .timescale .0 + h .offset .0 * 1000) (k * 1000 + h .start .0 * h .timescale .0)
     side c = by-clock h k c (sym b ∙ not-false t n)
 
     passes : (c : ℕ) → c * h .timescale .0 + z ≤ s + p → atOrBefore h k c ≡ true
-    passes c m = side c ∙ le-leb (c * h .timescale .0 + h .offset .0 * 1000) (k * 1000 + h .start .0 * h .timescale .0) (omega (arith, x .is, y .is, o .is))
+    passes c g =
+        side c ∙
+        le-leb ((c + h .update .0) * h .timescale .0 + h .offset .0 * 1000) (k * 1000 + h .start .0 * h .timescale .0)
+        (omega (arith, x .is, y .is, v .is, w .is, add-mul c (h .update .0) (h .timescale .0)))
 
     fails : (c : ℕ) → s + p < c * h .timescale .0 + z → atOrBefore h k c ≡ false
-    fails c m = side c ∙ lt-leb (c * h .timescale .0 + h .offset .0 * 1000) (k * 1000 + h .start .0 * h .timescale .0) (omega (arith, x .is, y .is, o .is))
+    fails c g =
+        side c ∙
+        lt-leb ((c + h .update .0) * h .timescale .0 + h .offset .0 * 1000) (k * 1000 + h .start .0 * h .timescale .0)
+        (omega (arith, x .is, y .is, v .is, w .is, add-mul c (h .update .0) (h .timescale .0)))
 
     pub edge-never : s + p < z → Never ≡ edgeOf h k
-    edge-never m = right-is (atOrBefore h k) largestMillis Never (λ c u. fails c (omega arith))
+    edge-never g = right-is (atOrBefore h k) largestMillis Never (λ c u. fails c (omega arith))
 
-    module _ (m : z ≤ s + p) (q : Held h) where
+    module _ (g : z ≤ s + p) (q : Held h) where
       within : (c : ℕ) → c ≤ (s + p - z) / h .timescale .0 → atOrBefore h k c ≡ true
       within c u =
-          let v : c * h .timescale .0 ≤ s + p - z = le-div-iff-mul-le (q .some) .0 u in
+          let d : c * h .timescale .0 ≤ s + p - z = le-div-iff-mul-le (q .some) .0 u in
           passes c (omega arith)
 
       after : (c : ℕ) → (s + p - z) / h .timescale .0 < c → atOrBefore h k c ≡ false
       after c u =
-          let v : s + p - z < c * h .timescale .0 = div-lt-iff-lt-mul (q .some) .0 u in
+          let d : s + p - z < c * h .timescale .0 = div-lt-iff-lt-mul (q .some) .0 u in
           fails c (omega arith)
 
       pub edge-limit : largestMillis < (s + p - z) / h .timescale .0 → At (record { 0 = largestMillis }) ≡ edgeOf h k

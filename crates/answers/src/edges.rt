@@ -12,8 +12,8 @@ use units::Tick;
 use window::Head;
 
 // Inner, since the products must fit 64 bits: the edge by the next tick. Where that lies before the
-// period end, the clock alone decides the upper edge; both sides are moved on by the offset and the
-// period start, so that they are natural numbers.
+// period end, the clock and the update period decide the upper edge; both sides are moved on by the
+// offset and the period start, so that they are natural numbers.
 fn edge_of(head: Head, next: Tick) -> CoveredEdge
     requires { ⌜ Held head × (next .0 ≤ largestTick) ⌝ }
     ensures { λ r. ⌜ r ≡ edgeOf head (next .0) ⌝ }
@@ -24,11 +24,13 @@ fn edge_of(head: Head, next: Tick) -> CoveredEdge
     let start = head.start.grains(head.timescale);
     let place = next.grains();
     let zero = head.offset.grains();
+    let ahead = head.update.grains(head.timescale);
     let upto = start.0 + place.0;
-    if upto < zero.0 {
+    let from = zero.0 + ahead.0;
+    if upto < from {
         return CoveredEdge::Never;
     }
-    let clock = (upto - zero.0) / head.timescale.0;
+    let clock = (upto - from) / head.timescale.0;
     if Millis::LARGEST < clock {
         return CoveredEdge::At(Millis(Millis::LARGEST));
     }

@@ -33,6 +33,7 @@ fn head(s: [u64; PLACES]) -> HeadFields {
         duration: s[4],
         depth: s[5],
         first: s[6],
+        update: s[7],
     }
 }
 
@@ -45,7 +46,7 @@ fn changes(name: u8) -> bool {
 
 fn change(name: u8, rec: Record, table: &mut [u64], s: [u64; PLACES]) -> Changed {
     if name == b'o' {
-        return timeline::open(head(s), WideTick(s[7]), table);
+        return timeline::open(head(s), WideTick(s[8]), table);
     }
     let at = s[1];
     let duration = low(s[2]);

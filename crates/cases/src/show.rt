@@ -1,4 +1,4 @@
-// What a call that changes came to, printed: the number of its outcome, the eleven words of the record,
+// What a call that changes came to, printed: the number of its outcome, the twelve words of the record,
 // the table.
 use agreement::Record;
 use keeping::Changed;
@@ -16,6 +16,7 @@ fn put_record(rec: Record) {
     put(rec.head.duration.0);
     put(rec.head.depth.0);
     put(rec.head.first.0);
+    put(rec.head.update.0);
     put(rec.accepted);
     put(rec.dropped);
     put(rec.next.0);

@@ -3,8 +3,8 @@ ghost use mathlib.Core.Path.{_≡_};
 ghost use Prim.Native.Nat.{_≤_, _<_, _+_, min};
 ghost use lib.ListN.{length};
 
-// The longest call, open, has seven numbers; place 0 is that of the name.
-pub(crate) const PLACES: usize = 8;
+// The longest call, open, has eight numbers; place 0 is that of the name.
+pub(crate) const PLACES: usize = 9;
 
 // One digit more. A number that 64 bits do not hold, or a byte that is no digit, changes nothing.
 fn with_digit(number: u64, byte: u8) -> u64 {
@@ -23,8 +23,8 @@ fn with_digit(number: u64, byte: u8) -> u64 {
 
 // A blank begins the next number, and the last goes on.
 fn place_after(place: usize, byte: u8) -> usize
-    requires { ⌜ place < 8 ⌝ }
-    ensures { λ r. ⌜ r < 8 ⌝ }
+    requires { ⌜ place < 9 ⌝ }
+    ensures { λ r. ⌜ r < 9 ⌝ }
 {
     if byte != b' ' {
         return place;

@@ -9,7 +9,7 @@ use Rattle.units.specs.declared.standing.Standing.{Standing}
 use Rattle.units.specs.declared.standing.Standing.the-variants.{Joins}
 use Rattle.units.specs.Limits.{tickOf}
 use Rattle.window.specs.declared.Head.{Head}
-use Rattle.window.specs.Limits.{headHeld, headOf}
+use Rattle.window.specs.Limits.{headHeld}
 use Rattle.agreement.specs.declared.Record.{Record}
 use Rattle.agreement.specs.declared.refusal.Refusal.the-variants.{OverLimit, BadOrder}
 use Rattle.keeping.specs.declared.Outcome.{Outcome}
@@ -26,7 +26,7 @@ use Rattle.file.specs.declared.Stage.the-variants.{Nothing, Headed, Open
 use Rattle.file.specs.declared.Reading.{Reading}
 use Rattle.file.specs.Lines.{linesOf}
 use Rattle.file.specs.Least.{leastCount}
-use Rattle.file.specs.Judging.{File, refused, taken, settledReading, firstTick, laterStanding, firstNegative, reachOutcome, reachesBy, appendedBy, takeS, openedBy, takeFirstS, sLines, takeHead, takeEnd, onNothing, onHeaded, onOpen, onFilled, onFrame, takeLine, takeLines, begun, readLines, readOutcome, answeredBy, readAnswer}
+use Rattle.file.specs.Judging.{headIn, File, refused, taken, settledReading, firstTick, laterStanding, firstNegative, reachOutcome, reachesBy, appendedBy, takeS, openedBy, takeFirstS, sLines, takeHead, takeEnd, onNothing, onHeaded, onOpen, onFilled, onFrame, takeLine, takeLines, begun, readLines, readOutcome, answeredBy, readAnswer}
 
 abbrev AtZero : File → Type 0
 AtZero x = x .reading .rec .clock .0 ≡ 0
@@ -77,7 +77,7 @@ module _ (r : Reading) (ws : List ℕ) (z : r .rec .clock .0 ≡ 0) where
 
   frame-zero : (st : Stage) (f : Frame) → AtZero (onFrame st r ws f)
   unfolding onNothing onHeaded onOpen onFilled
-  frame-zero Nothing (HeadFrame f) = head-zero r ws z (headOf f)
+  frame-zero Nothing (HeadFrame f) = head-zero r ws z (headIn f)
   frame-zero Nothing (S s) = z
   frame-zero Nothing (End m) = z
   frame-zero Nothing (Clock c) = z

@@ -11,7 +11,7 @@ use Rattle.units.specs.declared.standing.Standing.{Standing}
 use Rattle.units.specs.declared.standing.Standing.the-variants.{Joins, Gap, Overlap}
 use Rattle.units.specs.Limits.{largestTick, tickHeld, tickOf}
 use Rattle.window.specs.declared.Head.{Head}
-use Rattle.window.specs.Limits.{headHeld, headOf}
+use Rattle.window.specs.Limits.{headHeld}
 use Rattle.window.specs.Place.{endKnown, beforeEnd}
 use Rattle.runs.specs.Words.{capacity}
 use Rattle.runs.specs.Encoding.{runsFor}
@@ -36,7 +36,7 @@ use Rattle.file.specs.declared.Stage.the-variants.{Nothing, Headed, Open
 use Rattle.file.specs.declared.Reading.{Reading}
 use Rattle.file.specs.Lines.{linesOf, restOf}
 use Rattle.file.specs.Least.{leastCount}
-use Rattle.file.specs.Judging.{File, refused, taken, settledReading, firstTick, laterStanding, firstNegative, reachOutcome, reachesBy, appendedBy, takeS, openedBy, takeFirstS, sLines, takeHead, takeEnd, onNothing, onHeaded, onOpen, onFilled, onFrame, takeLine, takeLines, begun, readLines, stopOutcome, readOutcome, answeredBy, readAnswer}
+use Rattle.file.specs.Judging.{headIn, File, refused, taken, settledReading, firstTick, laterStanding, firstNegative, reachOutcome, reachesBy, appendedBy, takeS, openedBy, takeFirstS, sLines, takeHead, takeEnd, onNothing, onHeaded, onOpen, onFilled, onFrame, takeLine, takeLines, begun, readLines, stopOutcome, readOutcome, answeredBy, readAnswer}
 use Rattle.file.specs.Sound.{Sound}
 use Rattle.file.proofs.Sounding.{SoundFile, line-sound}
 
@@ -147,7 +147,7 @@ module _ (r : Reading) (ws : List ℕ) where
 
   frame-other : (st : Stage) (f : Frame) → Sound st r ws → r .stage ≡ st → OtherStage st → OtherStage (onFrame st r ws f .reading .stage)
   unfolding Sound onNothing onHeaded onOpen onFilled
-  frame-other Nothing (HeadFrame f) k e p = takes-head r ws (headOf f)
+  frame-other Nothing (HeadFrame f) k e p = takes-head r ws (headIn f)
   frame-other Nothing (S s) k e p = other refusal.BadOrder refl
   frame-other Nothing (End m) k e p = other refusal.BadOrder refl
   frame-other Nothing (Clock c) k e p = other refusal.BadLine refl

@@ -8,13 +8,12 @@ use types.Run.{OneOf, miss}
 use denote.Enum.Declared.{tagOf}
 use Rattle.units.specs.declared.standing.Standing.{Standing}
 use Rattle.units.specs.Limits.{largestSpan}
-use Rattle.window.specs.declared.HeadFields.{HeadFields}
-use Rattle.window.specs.Limits.{headOf}
 use Rattle.agreement.specs.declared.refusal.Refusal.{Refusal}
 use Rattle.agreement.specs.declared.refusal.Refusal.the-variants as refusal
 use Rattle.agreement.proofs.Agreeing.{agreeing}
 use Rattle.frames.specs.declared.Frame.{Frame}
 use Rattle.frames.specs.declared.Frame.the-variants.{Head as HeadFrame, S, End, Clock, Bad}
+use Rattle.frames.specs.declared.HeadLine.{HeadLine}
 use Rattle.frames.specs.declared.SFields.{SFields}
 use Rattle.frames.specs.Frames.{isFrame, Fits, frameOf}
 use Rattle.frames.proofs.Lines.{read-fits}
@@ -22,7 +21,7 @@ use Rattle.frames.proofs.Frame.{the-type}
 use Rattle.file.specs.declared.Stage.{Stage}
 use Rattle.file.specs.declared.Stage.the-variants.{Nothing, Headed, Open, Filled, Ended, Refused}
 use Rattle.file.specs.declared.Reading.{Reading}
-use Rattle.file.specs.Judging.{File, refused, misplaced, laterStanding, takeS, takeFirstS, takeHead, takeEnd, onNothing, onHeaded, onOpen, onFilled, onFrame, takeLine}
+use Rattle.file.specs.Judging.{headIn, File, refused, misplaced, laterStanding, takeS, takeFirstS, takeHead, takeEnd, onNothing, onHeaded, onOpen, onFilled, onFrame, takeLine}
 use Rattle.file.specs.Sound.{Running, Begins, Narrow, Sound}
 
 -- ---- a frame that may not stand at the stage
@@ -78,8 +77,8 @@ module _ (r : Reading) (f : Frame) (why : Refusal) (e : why ≡ misplaced f) (x 
 
 -- ---- a frame that may
 
-module _ (r : Reading) (f : Frame) (h : HeadFields) (e : f ≡ HeadFrame h) where
-  pub nothing-head : (x : Reading) → ((ws : List ℕ) → _≡_ {A = File} (record { reading = x; words = ws }) (takeHead r ws (headOf h))) →
+module _ (r : Reading) (f : Frame) (h : HeadLine) (e : f ≡ HeadFrame h) where
+  pub nothing-head : (x : Reading) → ((ws : List ℕ) → _≡_ {A = File} (record { reading = x; words = ws }) (takeHead r ws (headIn h))) →
       (ws : List ℕ) → _≡_ {A = File} (record { reading = x; words = ws }) (onNothing r ws f)
   unfolding onNothing
   nothing-head x k ws = k ws ∙ sym (ap (onNothing r ws) e)

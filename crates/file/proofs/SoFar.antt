@@ -188,7 +188,7 @@ added-all l start s part most bytes count i w n come e =
     let begun : line (l .bytes) start ≡ soFar come = ap (line (l .bytes)) all ∙ e in
     w .same come begun ∙ added-last (l .bytes) start part most bytes count i w n come begun
 
-pub none-is : line (replicate 83 0) 0 ≡ soFar []
+pub none-is : line (replicate mostBytes 0) 0 ≡ soFar []
 unfolding soFar
 none-is = refl
 

@@ -12,7 +12,7 @@ use Rattle.units.specs.declared.standing.Standing.the-variants.{Joins, Gap, Ove
 use Rattle.units.specs.Exactly.{ExactlyWhen}
 use Rattle.units.specs.Limits.{largestSpan, tickOf}
 use Rattle.window.specs.declared.Head.{Head}
-use Rattle.window.specs.Limits.{headHeld, headOf}
+use Rattle.window.specs.Limits.{headHeld}
 use Rattle.window.specs.Place.{endKnown, beforeEnd}
 use Rattle.runs.proofs.Tables.{canonical-length}
 use Rattle.agreement.specs.declared.Record.{Record}
@@ -35,7 +35,7 @@ use Rattle.frames.specs.Frames.{frameOf}
 use Rattle.file.specs.declared.Stage.{Stage}
 use Rattle.file.specs.declared.Stage.the-variants.{Nothing, Headed, Open, Filled, Ended, Refused}
 use Rattle.file.specs.declared.Reading.{Reading}
-use Rattle.file.specs.Judging.{File, settledReading, refused, taken as takes, firstTick, laterStanding, firstNegative, reachOutcome, reachesBy, appendedBy, takeS, openedBy, takeFirstS, takeHead, sLines, takeEnd, onNothing, onHeaded, onOpen, onFilled, onFrame, takeLine, takeLines, begun, readLines}
+use Rattle.file.specs.Judging.{headIn, File, settledReading, refused, taken as takes, firstTick, laterStanding, firstNegative, reachOutcome, reachesBy, appendedBy, takeS, openedBy, takeFirstS, takeHead, sLines, takeEnd, onNothing, onHeaded, onOpen, onFilled, onFrame, takeLine, takeLines, begun, readLines}
 use Rattle.file.specs.Lines.{linesOf}
 use Rattle.file.specs.Least.{leastCount}
 use Rattle.file.specs.Feeding.{mostLines, linesHeld, stageHeld}
@@ -193,7 +193,7 @@ module _ (words : ℕ) (r : Reading) (ws : List ℕ) (long : length ws ≡ words
 
   frame-sound : (st : Stage) (f : Frame) → Sound st r ws → r .stage ≡ st → Narrow f → SoundFile words (onFrame st r ws f)
   unfolding Sound onNothing onHeaded onOpen onFilled
-  frame-sound Nothing (HeadFrame f) k e n = head-sound words r ws long (headOf f) k
+  frame-sound Nothing (HeadFrame f) k e n = head-sound words r ws long (headIn f) k
   frame-sound Nothing (S s) k e n = refused-sound words r ws long refusal.BadOrder (few Nothing k)
   frame-sound Nothing (End m) k e n = refused-sound words r ws long refusal.BadOrder (few Nothing k)
   frame-sound Nothing (Clock c) k e n = refused-sound words r ws long refusal.BadLine (few Nothing k)

@@ -27,9 +27,10 @@ use Rattle.timeline.specs.Opening.{freshRecord, zeroRecord, openOutcome}
 use Rattle.timeline.specs.Appending.{unjoined_else_, appendOutcome}
 use Rattle.frames.specs.declared.Frame.{Frame}
 use Rattle.frames.specs.declared.Frame.the-variants.{Head as HeadFrame, S, End, Clock, Bad}
+use Rattle.frames.specs.declared.HeadLine.{HeadLine}
 use Rattle.frames.specs.declared.SFields.{SFields}
 use Rattle.frames.specs.Fields.{allOnes}
-use Rattle.frames.specs.Frames.{frameOf}
+use Rattle.frames.specs.Frames.{fieldsIn, frameOf}
 use Rattle.file.specs.declared.Stage.{Stage}
 use Rattle.file.specs.declared.Stage.the-variants.{Nothing, Headed, Open, Filled, Ended, Refused}
 use Rattle.file.specs.declared.Reading.{Reading}
@@ -124,6 +125,10 @@ takeLaterS r ws s = takeS r ws (laterStanding (s .t) (r .rec .next)) s
 
 -- ---- the head and the end
 
+-- the head that a line has, of either kind: an update period that is absent is 0
+abbrev pub headIn : HeadLine → Head
+headIn x = headOf (fieldsIn x)
+
 unfoldable pub takeHead : Reading → List ℕ → Head → File
 takeHead r ws h =
     refused OverLimit r ws unless headHeld h else
@@ -142,7 +147,7 @@ takeEnd r ws n =
 -- ---- which frames may stand where
 
 unfoldable pub onNothing : Reading → List ℕ → Frame → File
-onNothing r ws (HeadFrame f) = takeHead r ws (headOf f)
+onNothing r ws (HeadFrame x) = takeHead r ws (headIn x)
 onNothing r ws (S s) = refused (misplaced (S s)) r ws
 onNothing r ws (End n) = refused (misplaced (End n)) r ws
 onNothing r ws (Clock c) = refused (misplaced (Clock c)) r ws

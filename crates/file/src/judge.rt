@@ -148,10 +148,10 @@ fn on_nothing(reading: Reading, frame: Frame) -> Reading
     requires { ⌜ reading .lines ≡ 0 ⌝ }
     ensures { λ r. ⌜ ((ws : List ℕ) → _≡_ {A = File} (record { reading = r; words = ws }) (onNothing reading ws frame)) ⌝ }
 {
-    let Frame::Head(fields) = frame else {
+    let Frame::Head(line) = frame else {
         return refuse(reading, misplaced(frame));
     };
-    let HeadMade::Made(head) = Head::new(fields) else {
+    let HeadMade::Made(head) = Head::new(line.fields()) else {
         return refuse(reading, Refusal::OverLimit);
     };
     let mut rec = timeline::zero_record();

@@ -35,7 +35,7 @@ pub struct Reading {
 // The first bytes of a line that is not ended, how many they are, and zeros behind them. One byte more
 // than the longest frame has is enough to see that a line is too long.
 pub struct LineSoFar {
-    pub bytes: [u8; 83],
+    pub bytes: [u8; lines::MOST_BYTES],
     pub count: usize,
 }
 

@@ -7,8 +7,8 @@ ghost use Rattle.file.specs.Lines.{firstLine};
 ghost use Rattle.file.specs.SoFar.{mostBytes, soFar, goesOn, tooLong};
 use crate::LineSoFar;
 
-// The longest frame has 82 digits.
-pub(crate) const MOST_BYTES: usize = 83;
+// As many as the longest frame has, and one more.
+pub const MOST_BYTES: usize = frames::LONGEST_LINE + 1;
 
 // How many bytes stand before the first line feed.
 pub fn line_end(bytes: &[u8]) -> usize
@@ -52,7 +52,7 @@ impl LineSoFar {
         ensures { λ r. ⌜ r ≡ soFar [] ⌝ }
     {
         LineSoFar {
-            bytes: [0u8; 83],
+            bytes: [0u8; MOST_BYTES],
             count: 0,
         }
     }

@@ -37,6 +37,7 @@ fn case_b() {
         duration: 0,
         depth: 10000,
         first: 1,
+        update: 0,
     };
     let opened = timeline::open(fields, WideTick(0), &mut table);
     let filled = timeline::append(opened.rec, &mut table, WideTick(0), 4000, 5);

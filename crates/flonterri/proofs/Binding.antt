@@ -76,10 +76,10 @@ module _ (ws ts : List ℕ) (new old : Record) (left : List ℕ) where
       go true outcome.Accepted k z = ap (λ r. agrees r left) (record-words new) ∙ k refl
       go true (outcome.Refused why) k z = absurd (refusal-some why z)
 
-opening-agreed : (ws ts : List ℕ) (timescale offset start duration depth first tick : ℕ) → LeavesAgreed (opens ws ts timescale offset start duration depth first tick)
+opening-agreed : (ws ts : List ℕ) (timescale offset start duration depth first update tick : ℕ) → LeavesAgreed (opens ws ts timescale offset start duration depth first update tick)
 unfolding opens
-opening-agreed ws ts timescale offset start duration depth first tick =
-    let h = headWith timescale offset start duration depth first in
+opening-agreed ws ts timescale offset start duration depth first update tick =
+    let h = headWith timescale offset start duration depth first update in
     leaves-agreed ws ts _ _ _ (openOutcome h (record { 0 = tick })) (open-agrees h (record { 0 = tick }) (length ts))
 
 appends-agreed : (ws ts : List ℕ) (st : Standing) (d n : ℕ) → d ≤ largestSpan → LeavesAgreed (appendsBy ws ts st d n)

@@ -86,17 +86,17 @@ module _ (ws ts : List ℕ) where
   trim-refused c k = refused-leaves ws ts _ _ (trimOutcome (recordOf ws) ts (record { 0 = c })) k
 
   -- a refused opening zeroes the record
-  module _ (a b c d e f t : ℕ) where
-    pub open-refused : opens ws ts a b c d e f t .number ≡ 1 → (opens ws ts a b c d e f t .words ≡ replicate recordWords 0) × (opens ws ts a b c d e f t .table ≡ ts)
+  module _ (a b c d e f u t : ℕ) where
+    pub open-refused : opens ws ts a b c d e f u t .number ≡ 1 → (opens ws ts a b c d e f u t .words ≡ replicate recordWords 0) × (opens ws ts a b c d e f u t .table ≡ ts)
     unfolding opens changes guarded wrongRecord changedBy wordsBy wordsOf
-    open-refused n = go (eqb (length ws) recordWords) (openOutcome (headWith a b c d e f) (record { 0 = t })) n
+    open-refused n = go (eqb (length ws) recordWords) (openOutcome (headWith a b c d e f u) (record { 0 = t })) n
       where
         at : Bool → Outcome → Changes
         at s o =
             cond (eqb (cond s 0 2) 0)
             (record {
-              number = outcomeNumber (changedBy o (freshRecord (headWith a b c d e f) (record { 0 = t })) zeroRecord .outcome);
-              words = wordsOf (changedBy o (freshRecord (headWith a b c d e f) (record { 0 = t })) zeroRecord .rec);
+              number = outcomeNumber (changedBy o (freshRecord (headWith a b c d e f u) (record { 0 = t })) zeroRecord .outcome);
+              words = wordsOf (changedBy o (freshRecord (headWith a b c d e f u) (record { 0 = t })) zeroRecord .rec);
               table = wordsBy o (replicate (length ts) 0) ts;
             })
             (record { number = cond s 0 2; words = ws; table = ts })

@@ -1,4 +1,4 @@
--- Records and lists of 11 words are one to one, and stores over all of a list leave what was stored.
+-- Records and lists of 12 words are one to one, and stores over all of a list leave what was stored.
 use mathlib.Core.Path.{_≡_, refl, sym, ap, _∙_}
 use mathlib.Core.List.{List, [], _∷_, _++_, append-nil}
 use Prim.Native.Nat.{ℕ, zero, suc, _+_}
@@ -22,28 +22,28 @@ all-from : (ws : List ℕ) (n i : ℕ) → i + n ≡ length ws → wordsFrom n i
 all-from ws zero i e = sym (drop-of-length-le ws {i = i} (omega arith))
 all-from ws (suc n) i e = ap (λ r. getD ws i 0 ∷ r) (all-from ws n (suc i) (omega arith)) ∙ sym (drop-cons ws i 0 (omega arith))
 
--- the words of the record that 11 words mean are those words
+-- the words of the record that 12 words mean are those words
 pub words-record : (ws : List ℕ) → length ws ≡ recordWords → wordsOf (recordOf ws) ≡ ws
 unfolding wordsOf recordOf
-words-record ws e = all-from ws 11 0 (sym e)
+words-record ws e = all-from ws 12 0 (sym e)
 
 -- and the record that its words mean is that record
 pub record-words : (rec : Record) → recordOf (wordsOf rec) ≡ rec
 unfolding wordsOf recordOf
 record-words rec = refl
 
--- the record of 11 words, once their head is made
+-- the record of 12 words, once their head is made
 abbrev recordOn : List ℕ → Head → Record
 recordOn ws h =
     record {
       head = h;
-      accepted = getD ws 6 0;
-      dropped = getD ws 7 0;
-      next = record { 0 = getD ws 8 0 };
-      clock = record { 0 = getD ws 9 0 };
-      used = getD ws 10 0;
+      accepted = getD ws 7 0;
+      dropped = getD ws 8 0;
+      next = record { 0 = getD ws 9 0 };
+      clock = record { 0 = getD ws 10 0 };
+      used = getD ws 11 0;
     }
 
-pub record-with : (ws : List ℕ) (h : Head) → h ≡ headWith (getD ws 0 0) (getD ws 1 0) (getD ws 2 0) (getD ws 3 0) (getD ws 4 0) (getD ws 5 0) → recordOn ws h ≡ recordOf ws
+pub record-with : (ws : List ℕ) (h : Head) → h ≡ headWith (getD ws 0 0) (getD ws 1 0) (getD ws 2 0) (getD ws 3 0) (getD ws 4 0) (getD ws 5 0) (getD ws 6 0) → recordOn ws h ≡ recordOf ws
 unfolding recordOf
 record-with ws h e = ap (recordOn ws) e

@@ -25,8 +25,8 @@ LeavesAgreed x = x .number ≡ 0 → agreed (x .words) (x .table) ≡ true
 
 pub record Binding : Type 0 where
   -- opening, of any head fields and first tick
-  pub opening : (ws ts : List ℕ) (timescale offset start duration depth first tick : ℕ) →
-      LeavesAgreed (opens ws ts timescale offset start duration depth first tick)
+  pub opening : (ws ts : List ℕ) (timescale offset start duration depth first update tick : ℕ) →
+      LeavesAgreed (opens ws ts timescale offset start duration depth first update tick)
   -- appends, by full tick and by stamp; a duration is one of 32 bits, as its type says
   pub append : (ws ts : List ℕ) (start d n : ℕ) → d ≤ largestSpan → LeavesAgreed (appends ws ts start d n)
   pub append-stamp : (ws ts : List ℕ) (stamp d n : ℕ) → d ≤ largestSpan → LeavesAgreed (appendsStamp ws ts stamp d n)

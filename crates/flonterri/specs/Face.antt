@@ -1,5 +1,5 @@
 -- What C and Rust see of a call: the paper's refusal number, 0 where the call is accepted, and every word and byte lent to it when it returns.
--- Lengths are judged before all else: a record that is not of 11 words is refused with 2, then an out that is not of its length with 15, and both
+-- Lengths are judged before all else: a record that is not of 12 words is refused with 2, then an out that is not of its length with 15, and both
 -- leave all memory as it came. Behind the lengths each call is the one that Rattle code makes, for the record that the words mean. In what follows
 -- ws are the record's words as they came, ts the table's. Paper: Refusal numbers.
 use Prim.Native.Nat.{ℕ}
@@ -60,9 +60,9 @@ changes ws ts x new =
     guarded (wrongRecord (length ws)) (λ wrong. record { number = wrong; words = ws; table = ts })
     (record { number = outcomeNumber (x .outcome); words = wordsOf (x .rec); table = new })
 
-unfoldable pub opens : List ℕ → List ℕ → ℕ → ℕ → ℕ → ℕ → ℕ → ℕ → ℕ → Changes
-opens ws ts timescale offset start duration depth first tick =
-    let h = headWith timescale offset start duration depth first in
+unfoldable pub opens : List ℕ → List ℕ → ℕ → ℕ → ℕ → ℕ → ℕ → ℕ → ℕ → ℕ → Changes
+opens ws ts timescale offset start duration depth first update tick =
+    let h = headWith timescale offset start duration depth first update in
     changes ws ts (openAnswer h (record { 0 = tick })) (openTable h (record { 0 = tick }) ts)
 
 abbrev pub appendsBy : List ℕ → List ℕ → Standing → ℕ → ℕ → Changes

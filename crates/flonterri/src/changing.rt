@@ -20,11 +20,12 @@ pub extern "C" fn flonterri_open(
     duration: u64,
     depth: u64,
     first_number: u32,
+    update: u64,
     first_tick: u64,
 ) -> u32
-    ensures { λ r. ⌜ r ≡ opens (now («record» .entry)) (now (table .entry)) timescale offset start duration depth «first_number» «first_tick» .number ⌝ }
-    ensures { λ _. ⌜ now («record» .exit) ≡ opens (now («record» .entry)) (now (table .entry)) timescale offset start duration depth «first_number» «first_tick» .words ⌝ }
-    ensures { λ _. ⌜ now (table .exit) ≡ opens (now («record» .entry)) (now (table .entry)) timescale offset start duration depth «first_number» «first_tick» .table ⌝ }
+    ensures { λ r. ⌜ r ≡ opens (now («record» .entry)) (now (table .entry)) timescale offset start duration depth «first_number» «update» «first_tick» .number ⌝ }
+    ensures { λ _. ⌜ now («record» .exit) ≡ opens (now («record» .entry)) (now (table .entry)) timescale offset start duration depth «first_number» «update» «first_tick» .words ⌝ }
+    ensures { λ _. ⌜ now (table .exit) ≡ opens (now («record» .entry)) (now (table .entry)) timescale offset start duration depth «first_number» «update» «first_tick» .table ⌝ }
 {
     let wrong = wrong_record(record.len());
     if wrong != 0 {
@@ -37,6 +38,7 @@ pub extern "C" fn flonterri_open(
         duration,
         depth,
         first: first_number as u64,
+        update,
     };
     let changed = timeline::open(fields, WideTick(first_tick), table);
     give_back(record, changed)

@@ -40,7 +40,7 @@ fn tell_written(out: &mut [u64], answer: WriteAnswer) -> u32
 // Inner, since record and out must have their lengths: writes back the record of a reading and its line,
 // and answers the number of its outcome.
 fn give_read(words: &mut [u64], out: &mut [u64], answer: ReadAnswer) -> u32
-    requires { ⌜ (length (now words) ≡ 11) × (length (now out) ≡ 1) ⌝ }
+    requires { ⌜ (length (now words) ≡ 12) × (length (now out) ≡ 1) ⌝ }
     ensures { λ r. ⌜ r ≡ outcomeNumber (answer .outcome) ⌝ }
     ensures { λ _. ⌜ now (words .exit) ≡ wordsOf (answer .rec) ⌝ }
     ensures { λ _. ⌜ now (out .exit) ≡ set (now (out .entry)) 0 (answer .line) ⌝ }

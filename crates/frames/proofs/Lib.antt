@@ -2,4 +2,5 @@
 pub mod Cases
 pub mod Lines
 pub mod Places
+pub mod Put
 pub mod Rows

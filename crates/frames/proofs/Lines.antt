@@ -13,7 +13,7 @@ use lib.ListN.{length, getD, drop, length-append}
 use Rattle.hex.specs.Digits.{between, isDigit, areDigits}
 use Rattle.hex.proofs.Widths.{digit-at}
 use Rattle.frames.specs.Fields.{fieldDigits, fieldValues, Fit}
-use Rattle.frames.specs.Frames.{widthsOf, lineWidths, lineLength, longestLine, kindOf, valuesOf, frameFrom, isFrame, Fits, lineOf, endedLine, kindAt, frameAs, frameOf}
+use Rattle.frames.specs.Frames.{widthsOf, lineWidths, lineLength, endedLength, longestLine, kindOf, valuesOf, frameFrom, isFrame, Fits, lineOf, endedLine, kindAt, frameAs, frameOf}
 use Rattle.frames.specs.Language.{Language}
 use Rattle.frames.specs.declared.Frame.{Frame}
 use Rattle.frames.specs.declared.Frame.the-variants.{Bad}
@@ -39,7 +39,7 @@ module _ (f : Frame) (h : Fits f) where
       length-fields (lineWidths (kindOf f)) (kindOf f ∷ valuesOf f)
       (fit-length (lineWidths (kindOf f)) (kindOf f ∷ valuesOf f) whole-fits)
 
-  pub length-ended : length (endedLine f) ≡ lineLength (kindOf f) + 1
+  pub length-ended : length (endedLine f) ≡ endedLength (kindOf f)
   unfolding endedLine
   length-ended = length-append (lineOf f) (10 ∷ []) ∙ ap (λ (n : ℕ). n + 1) length-line
 

@@ -146,34 +146,34 @@ agreed = record { a = refl; b = refl; b-after = refl; d-one = refl; d-two = refl
 
 record Wrote : Type 0 where
   bytes : fileFor (stateB3 .rec) (stateB3 .words) ≡ fileB
-  long : length fileB ≡ 129
-  head-line : length headLineB ≡ 82
+  long : length fileB ≡ 145
+  head-line : length headLineB ≡ 98
 
 wrote : Wrote
 unfolding runsOf repeated referencesOf push encode writing.fileOf writing.sFrames writing.laterFrames writing.bytesOf frames.endedLine frames.lineOf fields.fieldDigits hex.digitsOf hex.digitOf ascii
 wrote = record { bytes = refl; long = refl; head-line = refl }
 
-b-written : (room : ℕ) → 129 ≤ room → writeAnswer (stateB3 .rec) (stateB3 .words) room ≡ Written 129
+b-written : (room : ℕ) → 145 ≤ room → writeAnswer (stateB3 .rec) (stateB3 .words) room ≡ Written 145
 b-written room l =
-    written (stateB3 .rec) (stateB3 .words) room 129 .if
+    written (stateB3 .rec) (stateB3 .words) room 145 .if
     (record { agreed = agreed .b-after; some = lit≤ tt; long = sym (ap length (wrote .bytes) ∙ wrote .long); fits = l })
 
-b-output : (out : List ℕ) → 129 ≤ length out → output (stateB3 .rec) (stateB3 .words) out ≡ fileB ++ drop 129 out
+b-output : (out : List ℕ) → 145 ≤ length out → output (stateB3 .rec) (stateB3 .words) out ≡ fileB ++ drop 145 out
 unfolding outputBy
 b-output out l = ap₂ (λ y bytes. outputBy y bytes out) (b-written (length out) l) (wrote .bytes)
 
-b-short : (room : ℕ) → room < 129 → writeNumber (writeAnswer (stateB3 .rec) (stateB3 .words) room) ≡ 15
+b-short : (room : ℕ) → room < 145 → writeNumber (writeAnswer (stateB3 .rec) (stateB3 .words) room) ≡ 15
 unfolding writeAnswer
 b-short room l =
     ap (λ x. writeNumber (cond x (cond (leb (length (fileFor (stateB3 .rec) (stateB3 .words))) room) (Written (length (fileFor (stateB3 .rec) (stateB3 .words)))) (NotWritten ShortOutput)) (NotWritten Disagreement)))
     (agreed .b-after) ∙
     ap (λ (n : ℕ). writeNumber (cond (leb n room) (Written n) (NotWritten ShortOutput))) (ap length (wrote .bytes) ∙ wrote .long) ∙
-    ap (λ x. writeNumber (cond x (Written 129) (NotWritten ShortOutput))) (lt-leb 129 room l)
+    ap (λ x. writeNumber (cond x (Written 145) (NotWritten ShortOutput))) (lt-leb 145 room l)
 
 -- ---- a verdict by its ranges
 
 module _ (rec : Record) (ws : List ℕ) (a : agrees rec ws ≡ true) (o : rec .used ≡ 0 → ⊥) where
-  by-clock : (c : WideMillis) → clockHeld c ≡ true → leb (rec .clock .0) (c .0) ≡ true → (x : Needed) (v : Verdict) → NeededTicks (rec .head) (windowAt (rec .head) (c .0)) x →
+  pub by-clock : (c : WideMillis) → clockHeld c ≡ true → leb (rec .clock .0) (c .0) ≡ true → (x : Needed) (v : Verdict) → NeededTicks (rec .head) (windowAt (rec .head) (c .0)) x →
       v ≡ verdictBy (named x) (inRange (getD ws 0 0) (rec .next .0)) (pastNamed x) → verdictAt rec ws c ≡ v
   by-clock c m l x v n e =
       let u : Verdict = verdictOf (rec .head) (windowAt (rec .head) (c .0)) (kept rec ws) in
@@ -191,7 +191,7 @@ module _ (rec : Record) (ws : List ℕ) (a : agrees rec ws ≡ true) (o : rec .u
 two-runs : _≡_ {A = ℕ} 2 0 → ⊥
 two-runs = eqb-false 2 0 refl
 
-one-run : _≡_ {A = ℕ} 1 0 → ⊥
+pub one-run : _≡_ {A = ℕ} 1 0 → ⊥
 one-run = eqb-false 1 0 refl
 
 b-lacking : verdictAt (fiveB .rec) (fiveB .words) (millis 20_001) ≡ Lacking 10_000 9_999 (wide 20_000)

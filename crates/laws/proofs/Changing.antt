@@ -49,10 +49,12 @@ opening h t =
         (either
         (either
         (either
+        (either
         (either (either (either (none (h .timescale .0)) (over (h .timescale .0) largestTimescale)) (over (h .offset .0) largestTick)) (over (h .start .0) largestMillis))
         (over (h .duration .0) largestMillis))
         (over (h .depth .0) largestMillis))
         (over (h .first .0) largestNumber))
+        (over (h .update .0) largestMillis))
         (over (t .0) largestTick)
 
     by : (b : Bool) → outcomeNumber (cond b Accepted (Refused refusal.OverLimit)) ≡ cond (not b) 1 0

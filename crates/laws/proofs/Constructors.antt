@@ -104,13 +104,13 @@ numbers n = by (leb n largestNumber) ∙ ap (λ b. lowest ((b, 13) ∷ [])) (ove
 fields : (f : HeadFields) →
     headNumber (headMade f) ≡
     firstRefusal
-    (timescaleNumber (timescaleMade (f .timescale)) ∷ tickNumber (tickMade (f .offset)) ∷ millisNumber (millisMade (f .start)) ∷ millisNumber (millisMade (f .duration)) ∷ millisNumber (millisMade (f .depth)) ∷ firstNumber (numberMade (f .first)) ∷ [])
+    (timescaleNumber (timescaleMade (f .timescale)) ∷ tickNumber (tickMade (f .offset)) ∷ millisNumber (millisMade (f .start)) ∷ millisNumber (millisMade (f .duration)) ∷ millisNumber (millisMade (f .depth)) ∷ firstNumber (numberMade (f .first)) ∷ millisNumber (millisMade (f .update)) ∷ [])
 fields f =
     by (timescaleHeld (headOf f .timescale)) (tickHeld (headOf f .offset)) (millisHeld (headOf f .start)) (millisHeld (headOf f .duration)) (millisHeld (headOf f .depth))
-    (numberHeld (headOf f .first))
+    (numberHeld (headOf f .first)) (millisHeld (headOf f .update))
   where
-    by : (t o s d p n : Bool) →
-        headNumber (cond (t && o && s && d && p && n) (head.Made (headOf f)) head.Refused) ≡
+    by : (t o s d p n u : Bool) →
+        headNumber (cond (t && o && s && d && p && n && u) (head.Made (headOf f)) head.Refused) ≡
         firstRefusal
         (timescaleNumber (cond t (timescale.Made (headOf f .timescale)) timescale.Refused) ∷
         tickNumber (cond o (tick.Made (headOf f .offset)) tick.Refused) ∷
@@ -118,14 +118,16 @@ fields f =
         millisNumber (cond d (millis.Made (headOf f .duration)) millis.Refused) ∷
         millisNumber (cond p (millis.Made (headOf f .depth)) millis.Refused) ∷
         firstNumber (cond n (number.Made (headOf f .first)) number.Refused) ∷
+        millisNumber (cond u (millis.Made (headOf f .update)) millis.Refused) ∷
         [])
-    by false o s d p n = refl
-    by true false s d p n = refl
-    by true true false d p n = refl
-    by true true true false p n = refl
-    by true true true true false n = refl
-    by true true true true true false = refl
-    by true true true true true true = refl
+    by false o s d p n u = refl
+    by true false s d p n u = refl
+    by true true false d p n u = refl
+    by true true true false p n u = refl
+    by true true true true false n u = refl
+    by true true true true true false u = refl
+    by true true true true true true false = refl
+    by true true true true true true true = refl
 
 opens : (f : HeadFields) (t : WideTick) →
     outcomeNumber (openAnswer (headOf f) (tickOf t) .outcome) ≡ firstRefusal (headNumber (headMade f) ∷ tickNumber (tickMade (t .0)) ∷ [])

@@ -36,25 +36,25 @@ use Rattle.laws.proofs.Answering.{full-only, available-told, full-told,
 moved : {A : Type 0} {left : Type 0} {rows : List (Bool × ℕ)} (f : A → ℕ) (x y : A) → x ≡ y → f y ≡ lowest rows → ((f x ≡ 0 → ⊥) → left) → GivesNumber (f x) rows left
 moved f x y e number left = record { number = ap f e ∙ number; refused = left }
 
-module _ (ws ts : List ℕ) (scale offset start duration depth first tick : ℕ) where
+module _ (ws ts : List ℕ) (scale offset start duration depth first update tick : ℕ) where
   -- an opening is refused with 1 alone
   not-two : (t : Bool) → cond {A = ℕ} t 1 0 ≡ 2 → ⊥
   not-two true e = omega arith
   not-two false e = omega arith
 
-  opens-c : (x : ℕ) (words table : List ℕ) → x ≡ opens ws ts scale offset start duration depth first tick .number →
-      words ≡ opens ws ts scale offset start duration depth first tick .words → table ≡ opens ws ts scale offset start duration depth first tick .table →
-      OpensFromC x ws ts (headWith scale offset start duration depth first) tick words table
+  opens-c : (x : ℕ) (words table : List ℕ) → x ≡ opens ws ts scale offset start duration depth first update tick .number →
+      words ≡ opens ws ts scale offset start duration depth first update tick .words → table ≡ opens ws ts scale offset start duration depth first update tick .table →
+      OpensFromC x ws ts (headWith scale offset start duration depth first update) tick words table
   unfolding opens
   opens-c x words table e f g =
-      let h = headWith scale offset start duration depth first in
+      let h = headWith scale offset start duration depth first update in
       let t : Tick = record { 0 = tick } in
       record {
         number = e ∙ changes-number ws ts (openAnswer h t) (openTable h t ts) (openRows h t) (refusals .opening h t);
         length = λ z.
             let l = length-alone ws ts (openAnswer h t) (openTable h t ts) (λ k. not-two (overLimit h t) (sym (refusals .opening h t) ∙ k)) (sym e ∙ z) in
             (f ∙ l .0, g ∙ l .1);
-        refused = λ z. let l = refusing.open-refused ws ts scale offset start duration depth first tick (sym e ∙ z) in (f ∙ l .0, g ∙ l .1);
+        refused = λ z. let l = refusing.open-refused ws ts scale offset start duration depth first update tick (sym e ∙ z) in (f ∙ l .0, g ∙ l .1);
       }
 
 -- ---- C's calls, behind the lengths
@@ -212,8 +212,8 @@ demand-1 =
       desk-answer = λ κs a. tt;
       desk-whole = λ κs a. tt;
       c-open =
-          answered (λ κs (rec, (table, (scale, (offset, (start, (duration, (depth, (number, (tick, _))))))))) x e p.
-          opens-c (now rec) (now table) scale offset start duration depth number tick x _ _ (p .0) (p .1 .0) (p .1 .1));
+          answered (λ κs (rec, (table, (scale, (offset, (start, (duration, (depth, (number, (update, (tick, _)))))))))) x e p.
+          opens-c (now rec) (now table) scale offset start duration depth number update tick x _ _ (p .0) (p .1 .0) (p .1 .1));
       c-append =
           answered (λ κs (rec, (table, (start, (d, (n, _))))) x e p narrow.
           appends-c (now rec) (now table) start d n narrow x _ _ (p .0) (p .1 .0) (p .1 .1));

@@ -25,7 +25,9 @@ use Rattle.answers.specs.declared.Verdict.the-variants as verdict
 use Rattle.answers.specs.Judgement.{verdictAt, verdictWhole}
 use Rattle.frames.specs.declared.Frame.{Frame}
 use Rattle.frames.specs.declared.Frame.the-variants as frame
-use Rattle.frames.specs.Frames.{kindOf, lineOf, frameOf}
+use Rattle.frames.specs.declared.UpdateField.{UpdateField}
+use Rattle.frames.specs.declared.UpdateField.the-variants.{Absent, Of}
+use Rattle.frames.specs.Frames.{headKind, kindOf, lineOf, frameOf}
 use Rattle.hex.specs.Ascii.{ascii}
 use Rattle.frames.proofs.Lines.{language}
 use Rattle.file.specs.declared.ReadAnswer.{ReadAnswer}
@@ -399,12 +401,17 @@ module _ (input : List ℕ) where
   other-line : (f : Frame) → frameOf (firstLine input) ≡ f → (kindOf f ≡ 4 → ⊥) → Says input (answer input)
   other-line f e n = say-refused 16 0 (no-clock (λ clock file a. n (ap kindOf (sym e ∙ line-frame input clock file a))))
 
+  -- a head of either kind has none of a clock
+  not-four : (u : UpdateField) → headKind u ≡ 4 → ⊥
+  not-four Absent z = omega arith
+  not-four (Of n) z = omega arith
+
   says : Says input (answer input)
   says = go (hasFeed input) refl (frameOf (firstLine input)) refl
     where
       go : (t : Bool) → hasFeed input ≡ t → (f : Frame) → frameOf (firstLine input) ≡ f → Says input (answer input)
       go false e f g = say-refused 16 0 (no-clock (λ clock file a. false≢true (sym e ∙ input-fed input clock file a)))
-      go true e (frame.Head h) g = other-line (frame.Head h) g (λ z. omega arith)
+      go true e (frame.Head h) g = other-line (frame.Head h) g (not-four (h .update))
       go true e (frame.S s) g = other-line (frame.S s) g (λ z. omega arith)
       go true e (frame.End m) g = other-line (frame.End m) g (λ z. omega arith)
       go true e (frame.Clock c) g = say-asked (c .0) (behindFirst input) (asks-of input c e g)

@@ -131,7 +131,7 @@ module _ (rec : Record) (ws : List ℕ) where
   abbrev test : ℕ → Bool
   test = atOrBefore (rec .head) (rec .next .0)
 
-  asked : agrees rec ws ≡ true → coveredEdge rec ws ≡ edge
+  pub asked : agrees rec ws ≡ true → coveredEdge rec ws ≡ edge
   asked a = ap (λ t. cond t edge (Refused Disagreement)) a
 
   by-asked : (A : CoveredEdge → Type 0) → (agrees rec ws ≡ false → A (Refused Disagreement)) → (agrees rec ws ≡ true → A edge) → A (coveredEdge rec ws)
@@ -163,10 +163,10 @@ module _ (rec : Record) (ws : List ℕ) where
       go true b =
           let h = rec .head in
           let k = rec .next .0 in
-          let l : k * 1000 + h .start .0 * h .timescale .0 < 0 * h .timescale .0 + h .offset .0 * 1000 = leb-false _ _ (sym (by-clock h k 0 b) ∙ f) in
-          let z : 0 ≤ c = omega arith in
-          let m : 0 * h .timescale .0 ≤ c * h .timescale .0 = mul-le-mul-right (h .timescale .0) z in
-          by-clock h k c b ∙ lt-leb (c * h .timescale .0 + h .offset .0 * 1000) (k * 1000 + h .start .0 * h .timescale .0) (omega arith)
+          let l : k * 1000 + h .start .0 * h .timescale .0 < (0 + h .update .0) * h .timescale .0 + h .offset .0 * 1000 = leb-false _ _ (sym (by-clock h k 0 b) ∙ f) in
+          let z : 0 + h .update .0 ≤ c + h .update .0 = omega arith in
+          let m : (0 + h .update .0) * h .timescale .0 ≤ (c + h .update .0) * h .timescale .0 = mul-le-mul-right (h .timescale .0) z in
+          by-clock h k c b ∙ lt-leb ((c + h .update .0) * h .timescale .0 + h .offset .0 * 1000) (k * 1000 + h .start .0 * h .timescale .0) (omega arith)
       go false b = absurd (true≢false (sym (by-end (rec .head) (rec .next .0) 0 b) ∙ f))
 
   never : ExactlyWhen (coveredEdge rec ws ≡ Never) ((agrees rec ws ≡ true) × (test 0 ≡ false))
@@ -251,28 +251,28 @@ module _ (rec : Record) (ws : List ℕ) where
 -- ---- by hand
 
 -- the edge is where the next tick stands, in whole milliseconds
-at-clock : (h : Head) (k m : ℕ) → beforeEnd h k ≡ true → m ≤ largestMillis → m * h .timescale .0 + h .offset .0 * 1000 ≤ k * 1000 + h .start .0 * h .timescale .0 →
-    k * 1000 + h .start .0 * h .timescale .0 < (m + 1) * h .timescale .0 + h .offset .0 * 1000 → edgeOf h k ≡ At (clock m)
+pub at-clock : (h : Head) (k m : ℕ) → beforeEnd h k ≡ true → m ≤ largestMillis → (m + h .update .0) * h .timescale .0 + h .offset .0 * 1000 ≤ k * 1000 + h .start .0 * h .timescale .0 →
+    k * 1000 + h .start .0 * h .timescale .0 < (m + 1 + h .update .0) * h .timescale .0 + h .offset .0 * 1000 → edgeOf h k ≡ At (clock m)
 at-clock h k m b l u v =
     sym
     (right-is (atOrBefore h k) largestMillis (At (clock m)) (
       l,
-      by-clock h k m b ∙ le-leb (m * h .timescale .0 + h .offset .0 * 1000) (k * 1000 + h .start .0 * h .timescale .0) u,
+      by-clock h k m b ∙ le-leb ((m + h .update .0) * h .timescale .0 + h .offset .0 * 1000) (k * 1000 + h .start .0 * h .timescale .0) u,
       λ j i n.
-          let next : m + 1 ≤ j = omega arith in
-          let w : (m + 1) * h .timescale .0 ≤ j * h .timescale .0 = mul-le-mul-right (h .timescale .0) next in
-          by-clock h k j b ∙ lt-leb (j * h .timescale .0 + h .offset .0 * 1000) (k * 1000 + h .start .0 * h .timescale .0) (omega arith),
+          let next : m + 1 + h .update .0 ≤ j + h .update .0 = omega arith in
+          let w : (m + 1 + h .update .0) * h .timescale .0 ≤ (j + h .update .0) * h .timescale .0 = mul-le-mul-right (h .timescale .0) next in
+          by-clock h k j b ∙ lt-leb ((j + h .update .0) * h .timescale .0 + h .offset .0 * 1000) (k * 1000 + h .start .0 * h .timescale .0) (omega arith),
     ))
 
 abbrev stateLate : State
-stateLate = stateOf (headWith 1000 5 0 0 10_000 1) 0 0 0 0 0 (0 ∷ 0 ∷ 0 ∷ [])
+stateLate = stateOf (headWith 1000 5 0 0 10_000 1 0) 0 0 0 0 0 (0 ∷ 0 ∷ 0 ∷ [])
 
 record Worked : Type 0 where
   a-before : beforeEnd headA 161 ≡ true
   d-reaches : reachesEnd headD 2 ≡ true
   late : agrees (stateLate .rec) (stateLate .words) ≡ true
   late-state : openLate ≡ stateLate
-  late-zero : atOrBefore (headWith 1000 5 0 0 10_000 1) 0 0 ≡ false
+  late-zero : atOrBefore (headWith 1000 5 0 0 10_000 1 0) 0 0 ≡ false
 
 worked : Worked
 unfolding agrees runsOf wordsOf repeated referencesOf runsShaped zeros lastEnd every place moment periodEnd lowEdge highEdge changedBy wordsBy openOutcome

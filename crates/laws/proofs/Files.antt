@@ -117,18 +117,19 @@ read-back rec ws out n e came room = subst⁻¹ (ReadsBack rec ws came) bytes ba
 module _ (rec other : Record) (ws vs : List ℕ) (a : agrees rec ws ≡ true) (b : agrees other vs ≡ true) (s : SameKept rec ws other vs) where
   same-head : keptHead rec ≡ keptHead other
   same-head =
+      let h = other .head in
       ap
-      (λ x. record { timescale = x; offset = rec .head .offset; start = rec .head .start; duration = rec .head .duration; depth = rec .head .depth; first = record { 0 = firstKept rec } })
+      (λ x. record { timescale = x; offset = rec .head .offset; start = rec .head .start; duration = rec .head .duration; depth = rec .head .depth; first = record { 0 = firstKept rec }; update = rec .head .update })
       (s .timescale) ∙
       ap₂
-      (λ x y. record { timescale = other .head .timescale; offset = x; start = y; duration = rec .head .duration; depth = rec .head .depth; first = record { 0 = firstKept rec } })
+      (λ x y. record { timescale = h .timescale; offset = x; start = y; duration = rec .head .duration; depth = rec .head .depth; first = record { 0 = firstKept rec }; update = rec .head .update })
       (s .offset) (s .start) ∙
       ap₂
-      (λ x y. record { timescale = other .head .timescale; offset = other .head .offset; start = other .head .start; duration = x; depth = y; first = record { 0 = firstKept rec } })
+      (λ x y. record { timescale = h .timescale; offset = h .offset; start = h .start; duration = x; depth = y; first = record { 0 = firstKept rec }; update = rec .head .update })
       (s .duration) (s .depth) ∙
-      ap
-      (λ (n : ℕ). record { timescale = other .head .timescale; offset = other .head .offset; start = other .head .start; duration = other .head .duration; depth = other .head .depth; first = record { 0 = n } })
-      (s .number)
+      ap₂
+      (λ (n : ℕ) u. record { timescale = h .timescale; offset = h .offset; start = h .start; duration = h .duration; depth = h .depth; first = record { 0 = n }; update = u })
+      (s .number) (s .update)
 
   same-bytes : fileFor rec ws ≡ fileFor other vs
   same-bytes = stable.same-file rec other ws vs same-head (s .references)

@@ -29,3 +29,5 @@ pub mod Unique
 pub mod Answering
 pub mod Demand1
 pub mod Stamps
+pub mod Update
+pub mod OldAnswers

@@ -11,7 +11,7 @@ use Rattle.units.specs.declared.Tick.{Tick}
 use Rattle.units.specs.declared.standing.Standing.the-variants.{Joins}
 use Rattle.units.specs.Standing.{tickStanding}
 use Rattle.window.specs.declared.Head.{Head}
-use Rattle.window.specs.Limits.{headHeld, headOf, fieldsOf}
+use Rattle.window.specs.Limits.{headHeld}
 use Rattle.agreement.specs.declared.refusal.Refusal.{Refusal}
 use Rattle.agreement.specs.declared.refusal.Refusal.the-variants.{OverLimit, BadLine, BadOrder}
 use Rattle.agreement.specs.Agreement.{agrees}
@@ -23,12 +23,13 @@ use Rattle.timeline.specs.Opening.{freshRecord, zeroRecord, openOutcome}
 use Rattle.timeline.proofs.Kept.{open-agrees}
 use Rattle.frames.specs.declared.Frame.{Frame}
 use Rattle.frames.specs.declared.Frame.the-variants.{Head as HeadFrame, S, End, Clock, Bad}
+use Rattle.frames.specs.declared.HeadLine.{HeadLine}
 use Rattle.frames.specs.declared.SFields.{SFields}
 use Rattle.frames.specs.Frames.{frameOf}
 use Rattle.file.specs.declared.Stage.{Stage}
 use Rattle.file.specs.declared.Stage.the-variants.{Nothing, Headed, Open, Filled, Ended, Refused}
 use Rattle.file.specs.declared.Reading.{Reading}
-use Rattle.file.specs.Judging.{File, refused, taken, laterStanding, takeS, openedBy, takeFirstS, takeHead, takeEnd, onNothing, onHeaded, onOpen, onFilled, onFrame, takeLine, takeLines, stopOutcome, answeredBy, zeroed}
+use Rattle.file.specs.Judging.{File, headIn, refused, taken, laterStanding, takeS, openedBy, takeFirstS, takeHead, takeEnd, onNothing, onHeaded, onOpen, onFilled, onFrame, takeLine, takeLines, stopOutcome, answeredBy, zeroed}
 use Rattle.file.specs.Sound.{Narrow}
 use Rattle.file.proofs.Places.{narrow}
 use Rattle.laws.specs.Calls.{State, after, opening}
@@ -83,17 +84,21 @@ module _ (came : List ℕ) (h : Head) where
       by true = refl
       by false = refl
 
-  head-step : Step came (beginning came) 0 (HeadFrame (fieldsOf h)) (takeHead (held came (beginning came) 0 .reading) came h)
+module _ (came : List ℕ) (x : HeadLine) where
+  abbrev h : Head
+  h = headIn x
+
+  head-step : Step came (beginning came) 0 (HeadFrame x) (takeHead (held came (beginning came) 0 .reading) came h)
   unfolding takeHead
   head-step = go (headHeld h) refl
     where
       go : (b : Bool) → headHeld h ≡ b →
-          Step came (beginning came) 0 (HeadFrame (fieldsOf h))
+          Step came (beginning came) 0 (HeadFrame x)
           (cond b
           (taken Headed (record { stage = Nothing; lines = 0; rec = zeroRecord }) (freshRecord h (record { 0 = 0 })) came)
           (refused OverLimit (record { stage = Nothing; lines = 0; rec = zeroRecord }) came))
-      go true e = goes (head-number true e) refl (headed h (record { rec = zeroRecord; words = came }) e)
-      go false e = stops OverLimit refl refl (head-number false e)
+      go true e = goes (head-number came h true e) refl (headed h (record { rec = zeroRecord; words = came }) e)
+      go false e = stops OverLimit refl refl (head-number came h false e)
 
 -- ---- an S line
 
@@ -237,7 +242,7 @@ onward came x n f = onFrame (held came x n .reading .stage) (held came x n .read
 
 step : (came : List ℕ) (x : Sofar) (n : ℕ) → At came x n → (f : Frame) → Narrow f → Step came x n f (onward came x n f)
 unfolding onNothing onHeaded onOpen onFilled
-step came x n none (HeadFrame f) w = head-step came (headOf f)
+step came x n none (HeadFrame f) w = head-step came f
 step came x n none (S s) w = stops BadOrder refl refl refl
 step came x n none (End m) w = stops BadOrder refl refl refl
 step came x n none (Clock c) w = stops BadLine refl refl refl

@@ -12,6 +12,7 @@ use Rattle.keeping.specs.Keeping.{outcomeNumber}
 use Rattle.timeline.specs.Opening.{openOutcome}
 use Rattle.frames.specs.declared.Frame.{Frame}
 use Rattle.frames.specs.declared.Frame.the-variants.{S, End}
+use Rattle.frames.specs.declared.HeadLine.{HeadLine}
 use Rattle.frames.specs.declared.SFields.{SFields}
 use Rattle.frames.specs.Language.{AllFit}
 use Rattle.frames.specs.Frames.{lineOf, frameOf}
@@ -19,7 +20,7 @@ use Rattle.frames.proofs.Lines.{frame-written-read}
 use Rattle.file.specs.declared.Reading.{Reading as Read}
 use Rattle.file.specs.declared.ReadAnswer.{ReadAnswer}
 use Rattle.file.specs.Lines.{linesOf, restOf}
-use Rattle.file.specs.Judging.{readLines, readOutcome, answeredBy, readAnswer, readTable}
+use Rattle.file.specs.Judging.{headIn, readLines, readOutcome, answeredBy, readAnswer, readTable}
 use Rattle.file.proofs.Never.{never-disagrees}
 use Rattle.file.proofs.Places.{narrow}
 use Rattle.writing.specs.Writing.{bytesOf}
@@ -94,15 +95,18 @@ no-clock x (s ∷ ss) (c ∷ cs) st = ap₂ max (ap (clockOf x) (st .0 .2)) (no-
 
 -- ---- a file
 
-module _ (bytes came : List ℕ) (h : Head) (s : SFields) (ss : List SFields) (cs : List Call) (f : ReadsAs bytes came h s ss cs) where
+module _ (bytes came : List ℕ) (x : HeadLine) (s : SFields) (ss : List SFields) (cs : List Call) (f : ReadsAs bytes came x s ss cs) where
+  abbrev h : Head
+  h = headIn x
+
   narrowed : AllNarrow (map S (s ∷ ss))
-  narrowed = front (s ∷ ss) (End (length (s ∷ ss)) ∷ []) (fit-narrow (fileFrames h (s ∷ ss)) (f .fit) .1)
+  narrowed = front (s ∷ ss) (End (length (s ∷ ss)) ∷ []) (fit-narrow (fileFrames x (s ∷ ss)) (f .fit) .1)
 
   judged-as : judgedFile bytes came ≡ accepted (afterCalls (openingOf h s came) cs)
   judged-as =
       ap (λ b. judgedFile b came) (f .lines) ∙
-      ap₂ (judged came (beginning came) 1) (frames-again (fileFrames h (s ∷ ss)) (f .fit)) (rest-of-frames (fileFrames h (s ∷ ss))) ∙
-      whole-if came h s ss cs narrowed (f .last) (sym (told (openOutcome h (openingTick s)) _ _) ∙ f .opens) (f .stand) (f .accepted)
+      ap₂ (judged came (beginning came) 1) (frames-again (fileFrames x (s ∷ ss)) (f .fit)) (rest-of-frames (fileFrames x (s ∷ ss))) ∙
+      whole-if came x s ss cs narrowed (f .last) (sym (told (openOutcome h (openingTick s)) _ _) ∙ f .opens) (f .stand) (f .accepted)
 
   file-accepted : readAnswer bytes came .outcome ≡ Accepted
   file-accepted = number-accepted (readAnswer bytes came .outcome) (number-is bytes came ∙ ap (λ (r : Result). r .number) judged-as)
@@ -139,7 +143,7 @@ module _ (bytes came : List ℕ) (o : readAnswer bytes came .outcome ≡ Accepte
       let w = whole in
       let frames = subst⁻¹ AllFrames (w .frames) (refl, all-frames (w .s ∷ w .ss) (length (w .s ∷ w .ss))) in
       let again = bytes-again bytes (w .done) frames in (
-        w .head,
+        w .line,
         w .s,
         w .ss,
         w .cs,
@@ -147,7 +151,7 @@ module _ (bytes came : List ℕ) (o : readAnswer bytes came .outcome ≡ Accepte
           lines = again .0 ∙ ap bytesOf (w .frames);
           fit = subst AllFit (w .frames) (again .1);
           last = w .last;
-          opens = told (openOutcome (w .head) (openingTick (w .s))) _ _ ∙ w .opens;
+          opens = told (openOutcome (headIn (w .line)) (openingTick (w .s))) _ _ ∙ w .opens;
           stand = w .stand;
           accepted = w .accepted;
         },

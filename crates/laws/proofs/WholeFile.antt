@@ -10,7 +10,7 @@ use lib.ListN.{length}
 use Rattle.units.specs.declared.Tick.{Tick}
 use Rattle.units.specs.Limits.{tickHeld}
 use Rattle.window.specs.declared.Head.{Head}
-use Rattle.window.specs.Limits.{headHeld, headOf, fieldsOf}
+use Rattle.window.specs.Limits.{headHeld}
 use Rattle.agreement.specs.declared.refusal.Refusal.the-variants.{OverLimit}
 use Rattle.agreement.specs.Agreement.{agrees}
 use Rattle.keeping.specs.declared.Outcome.the-variants.{Accepted}
@@ -18,14 +18,14 @@ use Rattle.keeping.proofs.Outcomes.{past-if}
 use Rattle.timeline.specs.Opening.{openOutcome}
 use Rattle.frames.specs.declared.Frame.{Frame}
 use Rattle.frames.specs.declared.Frame.the-variants.{Head as HeadFrame, S, End, Clock, Bad}
+use Rattle.frames.specs.declared.HeadLine.{HeadLine}
 use Rattle.frames.specs.declared.SFields.{SFields}
-use Rattle.frames.specs.Frames.{kindOf}
 use Rattle.file.specs.declared.Stage.the-variants.{Open}
-use Rattle.file.specs.Judging.{File, firstNegative}
+use Rattle.file.specs.Judging.{File, firstNegative, headIn}
 use Rattle.file.specs.Sound.{Narrow}
 use Rattle.laws.specs.Calls.{Call, State, after, afterCalls, opening, outcomeOf}
 use Rattle.laws.specs.Refusals.{lowest, overLimit}
-use Rattle.laws.specs.Lines.{openingTick, negative, callOf, Place, afterHead, afterS, afterNegative, afterEnd, among, Sofar, appendedRows, stopRows, fieldRows, lineRows, taking, Result, accepted, refusedAt, unlessRefused, judged, beginning}
+use Rattle.laws.specs.Lines.{lineKind, openingTick, negative, callOf, Place, afterHead, afterS, afterNegative, afterEnd, among, Sofar, appendedRows, stopRows, fieldRows, lineRows, taking, Result, accepted, refusedAt, unlessRefused, judged, beginning}
 use Rattle.laws.specs.Reading.{fileFrames, NegativeLast, StandsFor, StandFor, AllAccepted}
 use Rattle.laws.proofs.NoRow.{none-holds, refused-number, number-accepted}
 use Rattle.laws.proofs.SLines.{Taken, on, off, s-taken}
@@ -73,7 +73,7 @@ module _ (came : List ℕ) (h : Head) where
       (refl, nothing rest (none-holds (stopRows (at afterEnd h k x) rest) (omega arith) (unless-zero came line _ _ e .0) .1 .0))
   end-only k x line (f ∷ fs) rest e =
       absurd
-      (extra (not (among (kindOf f) (1 ∷ 2 ∷ 3 ∷ []))) ((not (among (kindOf f) []), 17) ∷ fieldRows came (at afterEnd h k x) f)
+      (extra (not (among (lineKind f) (1 ∷ 2 ∷ 3 ∷ []))) ((not (among (lineKind f) []), 17) ∷ fieldRows came (at afterEnd h k x) f)
       (unless-zero came line (lowest (lineRows came (at afterEnd h k x) f)) _ e .0))
 
   -- the end line behind k S lines
@@ -185,26 +185,26 @@ module _ (came : List ℕ) (h : Head) where
 
 -- what a file is that no row refuses
 pub record Whole (came : List ℕ) (fs : List Frame) (rest : List ℕ) : Type 0 where
-  pub head : Head
+  pub line : HeadLine
   pub s : SFields
   pub ss : List SFields
   pub cs : List Call
-  pub frames : fs ≡ fileFrames head (s ∷ ss)
+  pub frames : fs ≡ fileFrames line (s ∷ ss)
   pub done : rest ≡ []
   pub last : NegativeLast (s ∷ ss)
-  pub opens : openOutcome head (openingTick s) ≡ Accepted
-  pub stand : StandFor (opening head (openingTick s) came) (s ∷ ss) cs
-  pub accepted : AllAccepted (opening head (openingTick s) came) cs
+  pub opens : openOutcome (headIn line) (openingTick s) ≡ Accepted
+  pub stand : StandFor (opening (headIn line) (openingTick s) came) (s ∷ ss) cs
+  pub accepted : AllAccepted (opening (headIn line) (openingTick s) came) cs
 
-whole-of : (came : List ℕ) (h : Head) (s : SFields) (fs : List Frame) (rest : List ℕ) → openOutcome h (openingTick s) ≡ Accepted →
-    After 0 (opening h (openingTick s) came) s fs rest → Whole came (HeadFrame (fieldsOf h) ∷ S s ∷ fs) rest
-whole-of came h s fs rest o r =
+whole-of : (came : List ℕ) (x : HeadLine) (s : SFields) (fs : List Frame) (rest : List ℕ) → openOutcome (headIn x) (openingTick s) ≡ Accepted →
+    After 0 (opening (headIn x) (openingTick s) came) s fs rest → Whole came (HeadFrame x ∷ S s ∷ fs) rest
+whole-of came x s fs rest o r =
     record {
-      head = h;
+      line = x;
       s = s;
       ss = r .ss;
       cs = r .cs;
-      frames = ap (λ gs. HeadFrame (fieldsOf h) ∷ S s ∷ gs) (r .frames ∙ ap (λ (j : ℕ). map S (r .ss) ++ End j ∷ []) (omega arith));
+      frames = ap (λ gs. HeadFrame x ∷ S s ∷ gs) (r .frames ∙ ap (λ (j : ℕ). map S (r .ss) ++ End j ∷ []) (omega arith));
       done = r .done;
       last = r .last;
       opens = o;
@@ -218,12 +218,13 @@ open-first true rows e = let z : ⊥ = omega arith in absurd z
 open-first false rows e = (refl, e)
 
 module _ (came : List ℕ) (rest : List ℕ) where
-  headed-only : (h : Head) (x : State) (fs : List Frame) → AllNarrow fs → judged came (at afterHead h 0 x) 2 fs rest .number ≡ 0 →
-      Whole came (HeadFrame (fieldsOf h) ∷ fs) rest
+  headed-only : (l : HeadLine) (x : State) (fs : List Frame) → AllNarrow fs → judged came (at afterHead (headIn l) 0 x) 2 fs rest .number ≡ 0 →
+      Whole came (HeadFrame l ∷ fs) rest
   unfolding judged
-  headed-only h x [] w e = let z : ⊥ = omega arith in absurd z
-  headed-only h x (HeadFrame g ∷ fs) w e = let z : ⊥ = omega arith in absurd z
-  headed-only h x (S s ∷ fs) w e =
+  headed-only l x [] w e = let z : ⊥ = omega arith in absurd z
+  headed-only l x (HeadFrame g ∷ fs) w e = let z : ⊥ = omega arith in absurd z
+  headed-only l x (S s ∷ fs) w e =
+      let h = headIn l in
       let y = opening h (openingTick s) came in
       let n =
       unless-zero came 2 (lowest ((overLimit h (openingTick s), 1) ∷ appendedRows y s))
@@ -233,19 +234,19 @@ module _ (came : List ℕ) (rest : List ℕ) where
       let first = open-first (overLimit h (openingTick s)) (appendedRows y s) (n .0) in
       let o : openOutcome h (openingTick s) ≡ Accepted = number-accepted (openOutcome h (openingTick s)) (sym (open-number h (openingTick s)) ∙ first .0) in
       let a = open-agreed came h s o in
-      whole-of came h s fs rest o
+      whole-of came l s fs rest o
       (s-follows came h 0 y s 3 fs rest a (w .0) (first .1) (n .1)
       (running-only came h fs rest 0 (after y (callOf y s)) 3 (s-agrees y s a (w .0) (first .1)) (w .1)))
-  headed-only h x (End m ∷ fs) w e = let z : ⊥ = omega arith in absurd z
-  headed-only h x (Clock c ∷ fs) w e = let z : ⊥ = omega arith in absurd z
-  headed-only h x (Bad ∷ fs) w e = let z : ⊥ = omega arith in absurd z
+  headed-only l x (End m ∷ fs) w e = let z : ⊥ = omega arith in absurd z
+  headed-only l x (Clock c ∷ fs) w e = let z : ⊥ = omega arith in absurd z
+  headed-only l x (Bad ∷ fs) w e = let z : ⊥ = omega arith in absurd z
 
   pub whole-only : (fs : List Frame) → AllNarrow fs → judged came (beginning came) 1 fs rest .number ≡ 0 → Whole came fs rest
   unfolding judged
   whole-only [] w e = let z : ⊥ = omega arith in absurd z
   whole-only (HeadFrame f ∷ fs) w e =
-      headed-only (headOf f) (beginning came .timeline) fs (w .1)
-      (unless-zero came 1 (lowest (lineRows came (beginning came) (HeadFrame f))) (judged came (at afterHead (headOf f) 0 (beginning came .timeline)) 2 fs rest) e .1)
+      headed-only f (beginning came .timeline) fs (w .1)
+      (unless-zero came 1 (lowest (lineRows came (beginning came) (HeadFrame f))) (judged came (at afterHead (headIn f) 0 (beginning came .timeline)) 2 fs rest) e .1)
   whole-only (S s ∷ fs) w e = let z : ⊥ = omega arith in absurd z
   whole-only (End m ∷ fs) w e = let z : ⊥ = omega arith in absurd z
   whole-only (Clock c ∷ fs) w e = let z : ⊥ = omega arith in absurd z
@@ -308,9 +309,13 @@ module _ (came : List ℕ) (h : Head) where
       (subst (λ d. AllAccepted (after x d) cs) (is .0) (ok .1)) ∙
       ap (λ d. accepted (afterCalls (after x d) cs)) (sym (is .0))
 
+module _ (came : List ℕ) (hd : HeadLine) where
+  abbrev h : Head
+  h = headIn hd
+
   pub whole-if : (s : SFields) (ss : List SFields) (cs : List Call) → AllNarrow (map S (s ∷ ss)) → NegativeLast (s ∷ ss) → openOutcome h (openingTick s) ≡ Accepted →
       StandFor (opening h (openingTick s) came) (s ∷ ss) cs → AllAccepted (opening h (openingTick s) came) cs →
-      judged came (beginning came) 1 (fileFrames h (s ∷ ss)) [] ≡ accepted (afterCalls (opening h (openingTick s) came) cs)
+      judged came (beginning came) 1 (fileFrames hd (s ∷ ss)) [] ≡ accepted (afterCalls (opening h (openingTick s) came) cs)
   unfolding afterCalls
   whole-if s ss [] w l o st ok = absurd st
   whole-if s ss (c ∷ cs) w l o st ok =
@@ -321,10 +326,10 @@ module _ (came : List ℕ) (h : Head) where
       let place = cond (negative s) afterNegative afterS in
       let tail = map S ss ++ End (length (s ∷ ss)) ∷ [] in
       let none = no-over came h s o in
-      goes-on came (beginning came) 1 (HeadFrame (fieldsOf h)) (S s ∷ tail) [] (head-row came h (openingTick s) o) ∙
+      goes-on came (beginning came) 1 (HeadFrame hd) (S s ∷ tail) [] (head-row came h (openingTick s) o) ∙
       goes-on came (at afterHead h 0 (beginning came .timeline)) 2 (S s) tail [] (ap (λ b. lowest ((b, 1) ∷ appendedRows x s)) none ∙ is .1) ∙
       ap (λ (j : ℕ). judged came (at place h 1 y) 3 (map S ss ++ End j ∷ []) []) (omega arith) ∙
       either-sign came h (negative s) ss 1 y 3 (negative-last s ss l) ∙
-      running-if ss cs 0 y 3 (s-agrees x s a (w .0) (is .1)) (w .1) (last-more s ss l) (subst (λ d. StandFor (after x d) ss cs) (is .0) (st .1))
+      running-if came h ss cs 0 y 3 (s-agrees x s a (w .0) (is .1)) (w .1) (last-more s ss l) (subst (λ d. StandFor (after x d) ss cs) (is .0) (st .1))
       (subst (λ d. AllAccepted (after x d) cs) (is .0) (ok .1)) ∙
       ap (λ d. accepted (afterCalls (after x d) cs)) (sym (is .0))

@@ -90,7 +90,7 @@ stateOf h a d t c u ws = record { rec = record { head = h; accepted = a; dropped
 
 -- A: a reference of 40 ticks from tick 111, then one of 10
 abbrev pub headA : Head
-headA = headWith 10 100 30_000 10_000 0 0
+headA = headWith 10 100 30_000 10_000 0 0 0
 
 abbrev pub openA : State
 openA = opening headA (tick 111) (full 6)
@@ -103,7 +103,7 @@ bothA = appending firstA 151 10 1
 
 -- B: five references of 4000 ticks from tick 0, the first with number 1
 abbrev pub headB : Head
-headB = headWith 1000 0 0 0 10_000 1
+headB = headWith 1000 0 0 0 10_000 1 0
 
 abbrev pub openB : State
 openB = opening headB (tick 0) (full 3)
@@ -123,7 +123,7 @@ trimB3 = trimming trimB2 18_000
 
 -- B as a file after those trims: three lines, each ended by a line feed
 abbrev pub headLineB : List ℕ
-headLineB = ascii "01000003e8000000000000000000000000000000000000000000000000000000000000271000000003"
+headLineB = ascii "05000003e80000000000000000000000000000000000000000000000000000000000002710000000030000000000000000"
 
 abbrev pub fileB : List ℕ
 fileB = headLineB ++ 10 ∷ ascii "020000000000001f4000000fa000000002" ++ 10 ∷ ascii "0300000001" ++ 10 ∷ []
@@ -133,14 +133,14 @@ abbrev pub nextC : Tick
 nextC = tick 4_294_970_000
 
 abbrev pub headC : Head
-headC = headWith 1000 0 0 0 0 0
+headC = headWith 1000 0 0 0 0 0 0
 
 abbrev pub openC : State
 openC = opening headC nextC (full 3)
 
 -- D: references of one tick from tick 0; the period ends inside tick 1
 abbrev pub headD : Head
-headD = headWith 3 0 0 500 0 0
+headD = headWith 3 0 0 500 0 0 0
 
 abbrev pub openD : State
 openD = opening headD (tick 0) (full 3)
@@ -197,11 +197,11 @@ pub record ByHand : Type 0 where
   pub b-available : availabilityIn (fiveB .rec) (fiveB .words) (number 3) ≡ Ends (grains 12_000_000) (grains 26_000_000)
   pub b-available-after : availabilityIn (trimB3 .rec) (trimB3 .words) (number 3) ≡ Ends (grains 12_000_000) (grains 26_000_000)
   -- B: writing gives the paper's file after the last trim, byte for byte, in any output that has room for it; what stands
-  -- behind it stays as it came, and a shorter output is refusal 15. Its first line has 82 digits
-  pub b-head-line : length headLineB ≡ 82
-  pub b-written : (out : List ℕ) → 129 ≤ length out → writeAnswer (trimB3 .rec) (trimB3 .words) (length out) ≡ Written 129
-  pub b-file : (out : List ℕ) → 129 ≤ length out → output (trimB3 .rec) (trimB3 .words) out ≡ fileB ++ drop 129 out
-  pub b-short : (room : ℕ) → room < 129 → writeNumber (writeAnswer (trimB3 .rec) (trimB3 .words) room) ≡ 15
+  -- behind it stays as it came, and a shorter output is refusal 15. Its first line has 98 digits
+  pub b-head-line : length headLineB ≡ 98
+  pub b-written : (out : List ℕ) → 145 ≤ length out → writeAnswer (trimB3 .rec) (trimB3 .words) (length out) ≡ Written 145
+  pub b-file : (out : List ℕ) → 145 ≤ length out → output (trimB3 .rec) (trimB3 .words) out ≡ fileB ++ drop 145 out
+  pub b-short : (room : ℕ) → room < 145 → writeNumber (writeAnswer (trimB3 .rec) (trimB3 .words) room) ≡ 15
   -- C: stamps around the next tick, and at half of the circle
   pub c-joins : stampStanding (stamp 2704) nextC ≡ Joins
   pub c-gap : stampStanding (stamp 2705) nextC ≡ Gap

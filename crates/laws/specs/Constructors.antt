@@ -63,6 +63,7 @@ pub record Constructors : Type 0 where
       millisNumber (millisMade (f .duration)) ∷
       millisNumber (millisMade (f .depth)) ∷
       firstNumber (numberMade (f .first)) ∷
+      millisNumber (millisMade (f .update)) ∷
       [])
   -- an opening has that of the head, then that of the first tick
   pub opening : (f : HeadFields) (t : WideTick) →

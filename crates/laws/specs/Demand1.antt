@@ -172,8 +172,8 @@ pub record Demand1 : Type 0 where
   pub desk-whole : AnyInput report.answer_whole.Reads.Asked
   -- C, opening: refused with 1, the words of a zero record
   pub c-open : Answers c.flonterri_open.Reads.Asked c.flonterri_open.Reads.Learnt
-      (λ (rec, (table, (timescale, (offset, (start, (duration, (depth, (number, (first, _))))))))) x (rec′, (table′, _)).
-      OpensFromC x (now rec) (now table) (headWith timescale offset start duration depth number) first (now rec′) (now table′))
+      (λ (rec, (table, (timescale, (offset, (start, (duration, (depth, (number, (update, (first, _)))))))))) x (rec′, (table′, _)).
+      OpensFromC x (now rec) (now table) (headWith timescale offset start duration depth number update) first (now rec′) (now table′))
   -- C, appends and trim
   pub c-append : Answers c.flonterri_append.Reads.Asked c.flonterri_append.Reads.Learnt
       (λ (rec, (table, (start, (duration, (count, _))))) x (rec′, (table′, _)). duration ≤ largestSpan →

@@ -155,6 +155,7 @@ pub record SameKept (rec : Record) (ws : List ℕ) (other : Record) (vs : List �
   pub start : rec .head .start ≡ other .head .start
   pub duration : rec .head .duration ≡ other .head .duration
   pub depth : rec .head .depth ≡ other .head .depth
+  pub update : rec .head .update ≡ other .head .update
   pub number : firstKept rec ≡ firstKept other
   pub references : kept rec ws ≡ kept other vs
 

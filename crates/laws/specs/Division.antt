@@ -38,7 +38,7 @@ pub record SpentFirst (h : Head) (c s d n k : ℕ) : Type 0 where
 
 -- three references of 4 ticks from tick 0 on, in a period of 10 ms whose end cuts the last; a tick is a millisecond, the depth is 1
 abbrev pub headE : Head
-headE = headWith 1000 0 0 10 1 0
+headE = headWith 1000 0 0 10 1 0 0
 
 abbrev pub openE : State
 openE = opening headE (tick 0) (full 3)

@@ -48,7 +48,7 @@ clock n = record { 0 = n }
 
 -- B's head with an offset of 5, opened at tick 0: the next tick stands before the period start
 abbrev pub openLate : State
-openLate = opening (headWith 1000 5 0 0 10_000 1) (tick 0) (full 3)
+openLate = opening (headWith 1000 5 0 0 10_000 1 0) (tick 0) (full 3)
 
 pub record EdgeRight : Type 0 where
   -- each answer exactly when

@@ -12,4 +12,6 @@ pub mod Refusals
 pub mod Spent
 pub mod Unique
 pub mod Demand1
+pub mod Update
+pub mod OldAnswers
 pub mod Stamps

@@ -10,15 +10,14 @@ use lib.ListN.{length, replicate}
 use Rattle.units.specs.declared.Tick.{Tick}
 use Rattle.units.specs.Limits.{largestTick, largestNumber}
 use Rattle.window.specs.declared.Head.{Head}
-use Rattle.window.specs.Limits.{headOf}
 use Rattle.agreement.specs.declared.Record.{Record}
 use Rattle.timeline.specs.Opening.{zeroRecord}
 use Rattle.frames.specs.declared.Frame.{Frame}
 use Rattle.frames.specs.declared.Frame.the-variants.{Head as HeadFrame, S, End, Clock, Bad}
 use Rattle.frames.specs.declared.SFields.{SFields}
-use Rattle.frames.specs.Frames.{kindOf, frameOf}
+use Rattle.frames.specs.Frames.{frameOf}
 use Rattle.file.specs.Lines.{linesOf, restOf}
-use Rattle.file.specs.Judging.{absent}
+use Rattle.file.specs.Judging.{absent, headIn}
 use Rattle.file.specs.Least.{leastCount}
 use Rattle.laws.specs.Calls.{Call, byTick, State, after, opening}
 use Rattle.laws.specs.Refusals.{lowest, overLimit, startsPast, noRunLeft, appendRows}
@@ -55,7 +54,15 @@ pub data Place : Type 0 where
   afterNegative : Place
   afterEnd : Place
 
--- 1 is a head, 2 an S, 3 an end. After the end nothing may stand any more
+-- the kinds of line that a file has: 1 is a head, of kind 01 or 05, 2 an S, 3 an end; and 0 is none of them
+abbrev pub lineKind : Frame → ℕ
+lineKind (HeadFrame x) = 1
+lineKind (S s) = 2
+lineKind (End n) = 3
+lineKind (Clock c) = 0
+lineKind Bad = 0
+
+-- after the end nothing may stand any more
 abbrev pub mayStand : Place → List ℕ
 mayStand atFirst = 1 ∷ []
 mayStand afterHead = 2 ∷ []
@@ -122,7 +129,7 @@ abbrev pub stopRows : Sofar → List ℕ → List (Bool × ℕ)
 stopRows x rest = (ltb 0 (length (mayStand (x .place))), 16) ∷ (ltb 0 (length rest), 16) ∷ []
 
 abbrev pub fieldRows : List ℕ → Sofar → Frame → List (Bool × ℕ)
-fieldRows came x (HeadFrame f) = headRows (headOf f)
+fieldRows came x (HeadFrame h) = headRows (headIn h)
 fieldRows came x (S s) = sRows came x s
 fieldRows came x (End n) = endRows x n
 fieldRows came x (Clock c) = []
@@ -131,15 +138,15 @@ fieldRows came x Bad = []
 -- every line: 16, then 17, then its fields
 abbrev pub lineRows : List ℕ → Sofar → Frame → List (Bool × ℕ)
 lineRows came x f =
-    (not (among (kindOf f) (1 ∷ 2 ∷ 3 ∷ [])) || eqb (length (mayStand (x .place))) 0, 16) ∷
-    (not (among (kindOf f) (mayStand (x .place))), 17) ∷
+    (not (among (lineKind f) (1 ∷ 2 ∷ 3 ∷ [])) || eqb (length (mayStand (x .place))) 0, 16) ∷
+    (not (among (lineKind f) (mayStand (x .place))), 17) ∷
     fieldRows came x f
 
 -- ---- the whole file
 
 -- what a line that is not refused leaves: an S line its append
 abbrev pub taking : List ℕ → Sofar → Frame → Sofar
-taking came x (HeadFrame f) = record { place = afterHead; head = headOf f; count = 0; timeline = x .timeline }
+taking came x (HeadFrame h) = record { place = afterHead; head = headIn h; count = 0; timeline = x .timeline }
 taking came x (S s) =
     let y = timelineFor came x s in
     record { place = cond (negative s) afterNegative afterS; head = x .head; count = x .count + 1; timeline = after y (callOf y s) }

@@ -9,15 +9,15 @@ use lib.ListN.{length}
 use Rattle.units.specs.Exactly.{ExactlyWhen}
 use Rattle.window.specs.Ticks.{LeastCount}
 use Rattle.window.specs.declared.Head.{Head}
-use Rattle.window.specs.Limits.{fieldsOf}
 use Rattle.keeping.specs.declared.Outcome.the-variants.{Accepted}
 use Rattle.keeping.specs.Keeping.{outcomeNumber}
 use Rattle.timeline.specs.Opening.{openAnswer}
 use Rattle.frames.specs.declared.Frame.{Frame}
 use Rattle.frames.specs.declared.Frame.the-variants.{Head as HeadFrame, S, End}
+use Rattle.frames.specs.declared.HeadLine.{HeadLine}
 use Rattle.frames.specs.declared.SFields.{SFields}
 use Rattle.frames.specs.Language.{AllFit}
-use Rattle.file.specs.Judging.{readAnswer, readTable}
+use Rattle.file.specs.Judging.{headIn, readAnswer, readTable}
 use Rattle.writing.specs.Writing.{bytesOf}
 use Rattle.laws.specs.Calls.{Call, byTick, Plain, State, opening, after, afterCalls, outcomeOf, allAccepted}
 use Rattle.laws.specs.History.{Holds}
@@ -25,9 +25,9 @@ use Rattle.laws.specs.Lines.{startOf, openingTick, judgedFile}
 
 -- ---- the lines
 
--- one head, the S lines, one end with their number
-abbrev pub fileFrames : Head → List SFields → List Frame
-fileFrames h ss = HeadFrame (fieldsOf h) ∷ map S ss ++ End (length ss) ∷ []
+-- one head, of kind 01 or 05, the S lines, one end with their number
+abbrev pub fileFrames : HeadLine → List SFields → List Frame
+fileFrames x ss = HeadFrame x ∷ map S ss ++ End (length ss) ∷ []
 
 -- a negative r on the last S only
 abbrev pub NegativeLast : List SFields → Type 0
@@ -66,24 +66,24 @@ AllAccepted x (c ∷ cs) = (outcomeOf x c ≡ Accepted) × AllAccepted (after x 
 abbrev pub openingOf : Head → SFields → List ℕ → State
 openingOf h s came = opening h (openingTick s) came
 
--- bytes that are a file of a head and S lines, of which s is the first, and that stand for these calls
-pub record ReadsAs (bytes came : List ℕ) (h : Head) (s : SFields) (ss : List SFields) (cs : List Call) : Type 0 where
+-- bytes that are a file of a head line and S lines, of which s is the first, and that stand for these calls
+pub record ReadsAs (bytes came : List ℕ) (x : HeadLine) (s : SFields) (ss : List SFields) (cs : List Call) : Type 0 where
   -- the bytes are those lines, each ended by a feed, and nothing else
-  pub lines : bytes ≡ bytesOf (fileFrames h (s ∷ ss))
+  pub lines : bytes ≡ bytesOf (fileFrames x (s ∷ ss))
   -- every field fits its width
-  pub fit : AllFit (fileFrames h (s ∷ ss))
+  pub fit : AllFit (fileFrames x (s ∷ ss))
   -- no S stands after a negative r
   pub last : NegativeLast (s ∷ ss)
   -- the opening at the first S is accepted
-  pub opens : openAnswer h (openingTick s) .outcome ≡ Accepted
+  pub opens : openAnswer (headIn x) (openingTick s) .outcome ≡ Accepted
   -- the S lines stand for these appends to it
-  pub stand : StandFor (openingOf h s came) (s ∷ ss) cs
+  pub stand : StandFor (openingOf (headIn x) s came) (s ∷ ss) cs
   -- and each of them is accepted
-  pub accepted : AllAccepted (openingOf h s came) cs
+  pub accepted : AllAccepted (openingOf (headIn x) s came) cs
 
--- there are such a head, such S lines and such calls
+-- there are such a head line, such S lines and such calls
 abbrev pub IsFile : List ℕ → List ℕ → Type 0
-IsFile bytes came = (h : Head) × (s : SFields) × (ss : List SFields) × (cs : List Call) × ReadsAs bytes came h s ss cs
+IsFile bytes came = (x : HeadLine) × (s : SFields) × (ss : List SFields) × (cs : List Call) × ReadsAs bytes came x s ss cs
 
 -- ---- the statement
 
@@ -91,16 +91,16 @@ pub record ReadingRight : Type 0 where
   -- bytes are accepted exactly when they are a file
   pub accepted : (bytes came : List ℕ) → ExactlyWhen (readAnswer bytes came .outcome ≡ Accepted) (IsFile bytes came)
   -- reading is opening plus appends: the record is theirs, and the line is 0
-  pub answer : (bytes came : List ℕ) (h : Head) (s : SFields) (ss : List SFields) (cs : List Call) → ReadsAs bytes came h s ss cs →
-      readAnswer bytes came ≡ record { outcome = Accepted; rec = afterCalls (openingOf h s came) cs .rec; line = 0 }
+  pub answer : (bytes came : List ℕ) (x : HeadLine) (s : SFields) (ss : List SFields) (cs : List Call) → ReadsAs bytes came x s ss cs →
+      readAnswer bytes came ≡ record { outcome = Accepted; rec = afterCalls (openingOf (headIn x) s came) cs .rec; line = 0 }
   -- and so is the table
-  pub table : (bytes came : List ℕ) (h : Head) (s : SFields) (ss : List SFields) (cs : List Call) → ReadsAs bytes came h s ss cs →
-      readTable bytes came ≡ afterCalls (openingOf h s came) cs .words
+  pub table : (bytes came : List ℕ) (x : HeadLine) (s : SFields) (ss : List SFields) (cs : List Call) → ReadsAs bytes came x s ss cs →
+      readTable bytes came ≡ afterCalls (openingOf (headIn x) s came) cs .words
   -- those appends are calls as any caller's, with durations of 32 bits: what is proved of all lists of calls holds of a file
-  pub plain : (bytes came : List ℕ) (h : Head) (s : SFields) (ss : List SFields) (cs : List Call) → ReadsAs bytes came h s ss cs → Plain cs
+  pub plain : (bytes came : List ℕ) (x : HeadLine) (s : SFields) (ss : List SFields) (cs : List Call) → ReadsAs bytes came x s ss cs → Plain cs
   -- and so demand 3 reaches a timeline that was read: its record and its table hold the accepted references of those appends, at clock 0
-  pub holds : (bytes came : List ℕ) (h : Head) (s : SFields) (ss : List SFields) (cs : List Call) → ReadsAs bytes came h s ss cs →
-      Holds h (openingTick s) (length came) (record { rec = readAnswer bytes came .rec; words = readTable bytes came }) (allAccepted (openingOf h s came) cs) 0
+  pub holds : (bytes came : List ℕ) (x : HeadLine) (s : SFields) (ss : List SFields) (cs : List Call) → ReadsAs bytes came x s ss cs →
+      Holds (headIn x) (openingTick s) (length came) (record { rec = readAnswer bytes came .rec; words = readTable bytes came }) (allAccepted (openingOf (headIn x) s came) cs) 0
   -- for any bytes and any table the number is the one of the first refused line, by its rows, and 0 where none is
   pub number : (bytes came : List ℕ) → outcomeNumber (readAnswer bytes came .outcome) ≡ judgedFile bytes came .number
   -- the line is that line, a missing one where the file stops, and 0 where the file is accepted

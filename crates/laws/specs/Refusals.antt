@@ -52,7 +52,8 @@ some t (r ∷ rs) = t r || some t rs
 abbrev pub overLimit : Head → Tick → Bool
 overLimit h t =
     ((eqb (h .timescale .0) 0 || ltb largestTimescale (h .timescale .0)) || ltb largestTick (h .offset .0) || ltb largestMillis (h .start .0) ||
-    ltb largestMillis (h .duration .0) || ltb largestMillis (h .depth .0) || ltb largestNumber (h .first .0)) || ltb largestTick (t .0)
+    ltb largestMillis (h .duration .0) || ltb largestMillis (h .depth .0) || ltb largestNumber (h .first .0) || ltb largestMillis (h .update .0)) ||
+    ltb largestTick (t .0)
 
 -- 8: a reference starts at or after a known period end
 abbrev pub startsPast : Record → ℕ → ℕ → Bool

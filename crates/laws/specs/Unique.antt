@@ -175,6 +175,8 @@ pub record Entries : Type 0 where
   -- frames and hex
   pub line-length : Entry frames.line_length.Reads.Asked frames.line_length.Reads.Learnt
   pub read-line : Entry frames.read_line.Reads.Asked frames.read_line.Reads.Learnt
+  pub head-line-fields : Entry frames.HeadLine.fields.Reads.Asked frames.HeadLine.fields.Reads.Learnt
+  pub head-line-of : Entry frames.HeadLine.of.Reads.Asked frames.HeadLine.of.Reads.Learnt
   pub are-digits : Entry hex.are_digits.Reads.Asked hex.are_digits.Reads.Learnt
   pub write-digits-any : AnyInput hex.write_digits.Reads.Asked
   pub write-digits : OneLent hex.write_digits.Reads.Learnt first

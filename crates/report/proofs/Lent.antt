@@ -8,7 +8,7 @@ use lib.ListN.{length, replicate}
 use Rattle.units.specs.declared.standing.Standing.the-variants.{Joins}
 use Rattle.window.specs.declared.Head.{Head}
 use Rattle.units.specs.Limits.{tickOf}
-use Rattle.window.specs.Limits.{headHeld, headOf}
+use Rattle.window.specs.Limits.{headHeld}
 use Rattle.agreement.specs.declared.refusal.Refusal.the-variants.{OverLimit, BadLine}
 use Rattle.keeping.specs.declared.Outcome.{Outcome}
 use Rattle.keeping.specs.declared.Outcome.the-variants as outcome
@@ -23,7 +23,7 @@ use Rattle.file.specs.declared.Stage.the-variants.{Nothing, Headed, Open, Fille
 use Rattle.file.specs.declared.Reading.{Reading}
 use Rattle.file.specs.declared.ReadAnswer.{ReadAnswer}
 use Rattle.file.specs.Lines.{behindFirst, linesOf, restOf}
-use Rattle.file.specs.Judging.{File, refused, taken, firstTick, takeS, openedBy, takeFirstS, takeHead, onNothing, onHeaded, onFrame, takeLine, takeLines, begun, readLines, stopOutcome, readOutcome, answeredBy, readAnswer, zeroed, readTable}
+use Rattle.file.specs.Judging.{headIn, File, refused, taken, firstTick, takeS, openedBy, takeFirstS, takeHead, onNothing, onHeaded, onFrame, takeLine, takeLines, begun, readLines, stopOutcome, readOutcome, answeredBy, readAnswer, zeroed, readTable}
 use Rattle.report.specs.Answer.{askedIn, replyOn, replyIn}
 
 -- from the first S line on the words are the same; before it, and once a line is refused, only their number is
@@ -65,7 +65,7 @@ module _ (r : Reading) (u v : List ℕ) (l : length u ≡ length v) where
 
   nothing-same : (f : Frame) → Same (onNothing r u f) (onNothing r v f)
   unfolding onNothing
-  nothing-same (HeadFrame f) = head-same (headOf f)
+  nothing-same (HeadFrame f) = head-same (headIn f)
   nothing-same (S s) = record { reading = refl; words = l }
   nothing-same (End n) = record { reading = refl; words = l }
   nothing-same (Clock c) = record { reading = refl; words = l }

@@ -31,6 +31,7 @@ zeroRecord =
       duration = record { 0 = 0 };
       depth = record { 0 = 0 };
       first = record { 0 = 0 };
+      update = record { 0 = 0 };
     })
     (record { 0 = 0 })
 

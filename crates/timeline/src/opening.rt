@@ -42,6 +42,7 @@ pub fn zero_record() -> Record
         duration: Millis(0),
         depth: Millis(0),
         first: Number(0),
+        update: Millis(0),
     };
     fresh(head, Tick(0))
 }

@@ -7,9 +7,9 @@ use Rattle.units.specs.Limits.{largestTick, largestMillis, largestTimescale, la
 use Rattle.window.specs.declared.Head.{Head}
 use Rattle.window.specs.Limits.{headHeld, Held}
 
-pub tests-held : (h : Head) (t o s d p f : Bool) → t ≡ timescaleHeld (h .timescale) → o ≡ tickHeld (h .offset) → s ≡ millisHeld (h .start) →
-    d ≡ millisHeld (h .duration) → p ≡ millisHeld (h .depth) → f ≡ numberHeld (h .first) → (t && o && s && d && p && f) ≡ headHeld h
-tests-held h t o s d p f et eo es ed ep ef = ap₂ _&&_ (ap₂ _&&_ (ap₂ _&&_ (ap₂ _&&_ (ap₂ _&&_ et eo) es) ed) ep) ef
+pub tests-held : (h : Head) (t o s d p f u : Bool) → t ≡ timescaleHeld (h .timescale) → o ≡ tickHeld (h .offset) → s ≡ millisHeld (h .start) →
+    d ≡ millisHeld (h .duration) → p ≡ millisHeld (h .depth) → f ≡ numberHeld (h .first) → u ≡ millisHeld (h .update) → (t && o && s && d && p && f && u) ≡ headHeld h
+tests-held h t o s d p f u et eo es ed ep ef eu = ap₂ _&&_ (ap₂ _&&_ (ap₂ _&&_ (ap₂ _&&_ (ap₂ _&&_ (ap₂ _&&_ et eo) es) ed) ep) ef) eu
 
 -- the tests of a head that is held, each by itself
 pub record EachHeld (h : Head) : Type 0 where
@@ -19,15 +19,17 @@ pub record EachHeld (h : Head) : Type 0 where
   pub duration : millisHeld (h .duration) ≡ true
   pub depth : millisHeld (h .depth) ≡ true
   pub first : numberHeld (h .first) ≡ true
+  pub update : millisHeld (h .update) ≡ true
 
 pub each-held : (h : Head) → headHeld h ≡ true → EachHeld h
 each-held h e =
-    let a = and-eq-true-iff _ _ .0 e in
+    let u = and-eq-true-iff _ _ .0 e in
+    let a = and-eq-true-iff _ _ .0 (u .0) in
     let b = and-eq-true-iff _ _ .0 (a .0) in
     let c = and-eq-true-iff _ _ .0 (b .0) in
     let d = and-eq-true-iff _ _ .0 (c .0) in
     let t = and-eq-true-iff _ _ .0 (d .0) in
-    record { timescale = t .0; offset = t .1; start = d .1; duration = c .1; depth = b .1; first = a .1 }
+    record { timescale = t .0; offset = t .1; start = d .1; duration = c .1; depth = b .1; first = a .1; update = u .1 }
 
 -- the test is right
 pub held-is : (h : Head) → ExactlyWhen (headHeld h ≡ true) (Held h)
@@ -45,6 +47,7 @@ held-is h = record { only = only; if = if }
           duration = leb-true (h .duration .0) largestMillis (k .duration);
           depth = leb-true (h .depth .0) largestMillis (k .depth);
           first = leb-true (h .first .0) largestNumber (k .first);
+          update = leb-true (h .update .0) largestMillis (k .update);
         }
 
     if : Held h → headHeld h ≡ true
@@ -57,4 +60,5 @@ held-is h = record { only = only; if = if }
           le-leb (h .duration .0) largestMillis (k .duration),
           le-leb (h .depth .0) largestMillis (k .depth),
           le-leb (h .first .0) largestNumber (k .first),
+          le-leb (h .update .0) largestMillis (k .update),
         )

@@ -59,6 +59,9 @@ module _ (f : HeadFields) where
   pub no-first : (m : NumberMade) → m ≡ numberMade (f .first) → m ≡ number.Refused → Refused ≡ headMade f
   no-first m e k = unless (λ h. true≢false (sym (h .first) ∙ numbers .beyond (f .first) m e k))
 
+  pub no-update : (m : MillisMade) → m ≡ millisMade (f .update) → m ≡ millis.Refused → Refused ≡ headMade f
+  no-update m e k = unless (λ h. true≢false (sym (h .update) ∙ milliseconds .beyond (f .update) m e k))
+
   -- and where every field is held, the head is that of the fields
   pub head-made : (t : TimescaleMade) (rate : Timescale) → t ≡ timescaleMade (f .timescale) → t ≡ timescale.Made rate →
       (o : TickMade) (offset : Tick) → o ≡ tickMade (f .offset) → o ≡ tick.Made offset →
@@ -66,17 +69,21 @@ module _ (f : HeadFields) where
       (d : MillisMade) (duration : Millis) → d ≡ millisMade (f .duration) → d ≡ millis.Made duration →
       (p : MillisMade) (depth : Millis) → p ≡ millisMade (f .depth) → p ≡ millis.Made depth →
       (n : NumberMade) (first : Number) → n ≡ numberMade (f .first) → n ≡ number.Made first →
-      Made (record { timescale = rate; offset = offset; start = start; duration = duration; depth = depth; first = first }) ≡ headMade f
-  head-made t rate te tm o offset oe om s start se sm d duration de dm p depth pe pm n first ne nm =
+      (u : MillisMade) (update : Millis) → u ≡ millisMade (f .update) → u ≡ millis.Made update →
+      Made (record { timescale = rate; offset = offset; start = start; duration = duration; depth = depth; first = first; update = update }) ≡ headMade f
+  head-made t rate te tm o offset oe om s start se sm d duration de dm p depth pe pm n first ne nm u update ue um =
       ap Made
-      (ap₂ (λ (a : Timescale) (b : Tick). record { timescale = a; offset = b; start = start; duration = duration; depth = depth; first = first })
+      (ap₂ (λ (a : Timescale) (b : Tick). record { timescale = a; offset = b; start = start; duration = duration; depth = depth; first = first; update = update })
       (timescales .is (f .timescale) t rate te tm) (ticks .is (f .offset) o offset oe om) ∙
-      ap₂ (λ (a b : Millis). record { timescale = headOf f .timescale; offset = headOf f .offset; start = a; duration = b; depth = depth; first = first })
+      ap₂ (λ (a b : Millis). record { timescale = headOf f .timescale; offset = headOf f .offset; start = a; duration = b; depth = depth; first = first; update = update })
       (milliseconds .is (f .start) s start se sm) (milliseconds .is (f .duration) d duration de dm) ∙
-      ap₂ (λ (a : Millis) (b : Number). record { timescale = headOf f .timescale; offset = headOf f .offset; start = headOf f .start; duration = headOf f .duration; depth = a; first = b })
-      (milliseconds .is (f .depth) p depth pe pm) (numbers .is (f .first) n first ne nm)) ∙
+      ap₂ (λ (a : Millis) (b : Number). record { timescale = headOf f .timescale; offset = headOf f .offset; start = headOf f .start; duration = headOf f .duration; depth = a; first = b; update = update })
+      (milliseconds .is (f .depth) p depth pe pm) (numbers .is (f .first) n first ne nm) ∙
+      ap (λ (a : Millis). record { timescale = headOf f .timescale; offset = headOf f .offset; start = headOf f .start; duration = headOf f .duration; depth = headOf f .depth; first = headOf f .first; update = a })
+      (milliseconds .is (f .update) u update ue um)) ∙
       chosen _ (headHeld (headOf f)) _ _
-      (tests-held (headOf f) _ _ _ _ _ _
+      (tests-held (headOf f) _ _ _ _ _ _ _
       (sym (timescales .within (f .timescale) t rate te tm)) (sym (ticks .within (f .offset) o offset oe om)) (sym (milliseconds .within (f .start) s start se sm))
-      (sym (milliseconds .within (f .duration) d duration de dm)) (sym (milliseconds .within (f .depth) p depth pe pm)) (sym (numbers .within (f .first) n first ne nm)))
+      (sym (milliseconds .within (f .duration) d duration de dm)) (sym (milliseconds .within (f .depth) p depth pe pm)) (sym (numbers .within (f .first) n first ne nm))
+      (sym (milliseconds .within (f .update) u update ue um)))
       refl

@@ -119,7 +119,7 @@ module _ (h : Head) where
     reached d l =
         let a : first * rate ≤ d * rate = mul-le-mul-right rate l in
         let b : from < from / rate * rate + rate = lt-div-mul-add rated in
-        cut-both from (d * rate - h .start .0 * rate) (omega (arith, first-is)) from-end
+        cut-both from ((d + h .update .0) * rate - h .start .0 * rate) (omega (arith, first-is, add-mul d (h .update .0) rate)) from-end
 
     -- a depth reaches back by a millisecond at least
     depth-back : eqb (h .depth .0) 0 ≡ false → rate + h .start .0 * rate ≤ (h .depth .0 + h .start .0) * rate
@@ -141,14 +141,14 @@ module _ (h : Head) where
     opens : (d : ℕ) → first ≤ d → lowN h d < cutN h (placeN h (endOf r)) → lowN h d < highN h d
     unfolding rate
     opens d l k =
-        cut-both (lowN h d) (d * rate - h .start .0 * rate)
-        (go (eqb (h .depth .0) 0) refl (cut-under from (d * rate - h .start .0 * rate) (reached d l)))
+        cut-both (lowN h d) ((d + h .update .0) * rate - h .start .0 * rate)
+        (go (eqb (h .depth .0) 0) refl (cut-under from ((d + h .update .0) * rate - h .start .0 * rate) (reached d l)))
         (cut-end (lowN h d) (placeN h (endOf r)) k)
       where
-        go : (t : Bool) → eqb (h .depth .0) 0 ≡ t → from < d * rate - h .start .0 * rate →
-            cond t 0 (d * rate - (h .depth .0 + h .start .0) * rate) < d * rate - h .start .0 * rate
+        go : (t : Bool) → eqb (h .depth .0) 0 ≡ t → from < (d + h .update .0) * rate - h .start .0 * rate →
+            cond t 0 (d * rate - (h .depth .0 + h .start .0) * rate) < (d + h .update .0) * rate - h .start .0 * rate
         go true e a = omega arith
-        go false e a = omega (arith, depth-back e, rated)
+        go false e a = omega (arith, depth-back e, rated, add-mul d (h .update .0) rate)
 
     needed-then : (d : ℕ) → first ≤ d → lowN h d < cutN h (placeN h (endOf r)) → needed h r d ≡ true
     unfolding from

@@ -78,9 +78,9 @@ module _ (h : Head) where
   abbrev pub placeN : ℕ → ℕ
   placeN k = k * 1000 - h .offset .0 * 1000
 
-  -- from the period start, and from there with the depth, to millisecond c
+  -- from the period start to millisecond c plus the update period, and from there with the depth to c
   abbrev pub sinceStart : ℕ → ℕ
-  sinceStart c = c * h .timescale .0 - h .start .0 * h .timescale .0
+  sinceStart c = (c + h .update .0) * h .timescale .0 - h .start .0 * h .timescale .0
 
   abbrev pub sinceDepth : ℕ → ℕ
   sinceDepth c = c * h .timescale .0 - (h .depth .0 + h .start .0) * h .timescale .0
@@ -126,10 +126,11 @@ module _ (h : Head) where
   pub high-up : (c : ℕ) → up (highEdge h c) ≡ highN c
   unfolding highEdge
   high-up c =
-      let e : up (moment h (pos c)) ≡ c * h .timescale .0 - (0 + h .start .0) * h .timescale .0 =
-      up-is (moment h (pos c)) (c * h .timescale .0) ((0 + h .start .0) * h .timescale .0) (moment-is (pos c) c 0 (is-pos c))
+      let at : ℕ = c + h .update .0 in
+      let e : up (moment h (pos at)) ≡ at * h .timescale .0 - (0 + h .start .0) * h .timescale .0 =
+      up-is (moment h (pos at)) (at * h .timescale .0) ((0 + h .start .0) * h .timescale .0) (moment-is (pos at) at 0 (is-pos at))
       in
-      cut-up (moment h (pos c)) ∙ ap cutN (e ∙ ap (λ (n : ℕ). c * h .timescale .0 - n * h .timescale .0) (zero-add (h .start .0)))
+      cut-up (moment h (pos at)) ∙ ap cutN (e ∙ ap (λ (n : ℕ). at * h .timescale .0 - n * h .timescale .0) (zero-add (h .start .0)))
 
   -- ---- the rules of the window as comparisons of naturals
 

@@ -11,7 +11,7 @@ use Rattle.window.specs.declared.HeadMade.the-variants.{Made, Refused}
 abbrev pub headHeld : Head → Bool
 headHeld h =
     timescaleHeld (h .timescale) && tickHeld (h .offset) && millisHeld (h .start) && millisHeld (h .duration) && millisHeld (h .depth) &&
-    numberHeld (h .first)
+    numberHeld (h .first) && millisHeld (h .update)
 
 -- the head of fields as they come, whatever they are
 abbrev pub headOf : HeadFields → Head
@@ -23,6 +23,7 @@ headOf f =
       duration = record { 0 = f .duration };
       depth = record { 0 = f .depth };
       first = record { 0 = f .first };
+      update = record { 0 = f .update };
     }
 
 -- and the fields of a head
@@ -35,6 +36,7 @@ fieldsOf h =
       duration = h .duration .0;
       depth = h .depth .0;
       first = h .first .0;
+      update = h .update .0;
     }
 
 abbrev pub headMade : HeadFields → HeadMade
@@ -54,3 +56,4 @@ pub record Held (h : Head) : Type 0 where
   pub duration : h .duration .0 ≤ largestMillis
   pub depth : h .depth .0 ≤ largestMillis
   pub first : h .first .0 ≤ largestNumber
+  pub update : h .update .0 ≤ largestMillis

@@ -1,7 +1,7 @@
 -- The window rule. At clock c the window reaches from the later of the period start and c less the depth (from the period
--- start alone where no depth is given) up to the earlier of the period end and c. A reference is needed where its span, cut
--- to the period, shares a stretch with the window; it is spent once it is needed neither now nor at any later millisecond.
--- Paper: Window, needed, spent.
+-- start alone where no depth is given) up to the earlier of the period end and c plus the update period: a live manifest must
+-- cover what is played before it is fetched again. A reference is needed where its span, cut to the period, shares a stretch
+-- with the window; it is spent once it is needed neither now nor at any later millisecond. Paper: Window, needed, spent.
 use Prim.Native.Nat.{ℕ, _+_, _≤_}
 use mathlib.Core.Path.{_≡_}
 use mathlib.Core.Bool.{Bool, false, cond}
@@ -25,7 +25,7 @@ unfoldable pub lowEdge : Head → ℕ → ℤ
 lowEdge h c = cond (eqb (h .depth .0) 0) (pos 0) (later (pos 0) (moment h (pos c -ℤ pos (h .depth .0))))
 
 unfoldable pub highEdge : Head → ℕ → ℤ
-highEdge h c = cutToEnd h (moment h (pos c))
+highEdge h c = cutToEnd h (moment h (pos (c + h .update .0)))
 
 abbrev pub windowAt : Head → ℕ → Stretch
 windowAt h c = record { from = lowEdge h c; to = highEdge h c }

@@ -56,16 +56,18 @@ impl Head {
         past.grains(self.timescale)
     }
 
-    // The earlier of the period end and the clock. Inner: callers show the limits.
+    // The earlier of the period end and the clock plus the update period. Inner: callers show the limits.
     pub(crate) fn high(self, clock: Millis) -> Grains
         requires { ⌜ Held self × (clock .0 ≤ largestMillis) ⌝ }
         ensures { λ r. ⌜ Past (r .0) (highEdge self (clock .0)) ⌝ }
     {
-        if clock.0 <= self.start.0 {
+        let at = clock.grains(self.timescale);
+        let ahead = self.update.grains(self.timescale);
+        let start = self.start.grains(self.timescale);
+        if at.0 + ahead.0 <= start.0 {
             return Grains(0);
         }
-        let past = Millis(clock.0 - self.start.0);
-        let upto = past.grains(self.timescale);
+        let upto = Grains(at.0 + ahead.0 - start.0);
         if self.duration.0 == 0 {
             return upto;
         }

@@ -23,6 +23,7 @@ pub struct Head {
     pub duration: Millis,
     pub depth: Millis,
     pub first: Number,
+    pub update: Millis,
 }
 
 // The fields of a head as they come, each any number of 64 bits: `Head::new` makes a head of them.
@@ -33,6 +34,7 @@ pub struct HeadFields {
     pub duration: u64,
     pub depth: u64,
     pub first: u64,
+    pub update: u64,
 }
 
 pub enum HeadMade {
@@ -69,7 +71,8 @@ impl Head {
         let duration = self.duration.held();
         let depth = self.depth.held();
         let first = self.first.held();
-        timescale & offset & start & duration & depth & first
+        let update = self.update.held();
+        timescale & offset & start & duration & depth & first & update
     }
 
     // The head of some fields, where each is within the limit of its unit.
@@ -94,6 +97,9 @@ impl Head {
         let NumberMade::Made(first) = Number::new(fields.first) else {
             return HeadMade::Refused;
         };
+        let MillisMade::Made(update) = Millis::new(fields.update) else {
+            return HeadMade::Refused;
+        };
         HeadMade::Made(Head {
             timescale,
             offset,
@@ -101,6 +107,7 @@ impl Head {
             duration,
             depth,
             first,
+            update,
         })
     }
 
@@ -115,6 +122,7 @@ impl Head {
             duration: self.duration.0,
             depth: self.depth.0,
             first: self.first.0,
+            update: self.update.0,
         }
     }
 }

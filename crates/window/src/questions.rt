@@ -7,7 +7,7 @@ ghost use Rattle.units.specs.Limits.{largestTick, largestMillis, largestTimesca
 ghost use Rattle.window.specs.Limits.{Held};
 ghost use Rattle.window.specs.Place.{endKnown, beforeEnd};
 ghost use Rattle.window.specs.Window.{windowAt, wholePeriod};
-ghost use Rattle.window.specs.Steps.{inside};
+ghost use Rattle.window.specs.Steps.{farthest, inside};
 ghost use Rattle.window.specs.Ticks.{EndsPassed, NeededTicks, LeastCount};
 use crate::Head;
 use crate::Needed;
@@ -35,7 +35,7 @@ impl Head {
     // The ticks that a window needs. A tick that it covers in part is needed, so the first is
     // rounded down and the end up.
     fn ticks_between(self, from: Grains, to: Grains) -> Needed
-        requires { ⌜ Held self × (to .0 ≤ largestMillis * largestTimescale) ⌝ }
+        requires { ⌜ Held self × (to .0 ≤ farthest) ⌝ }
         ensures { λ r. ⌜ NeededTicks self (inside (from .0) (to .0)) r ⌝ }
     {
         if to.0 <= from.0 {

@@ -40,7 +40,7 @@ use Rattle.file.specs.declared.Reading.{Reading}
 use Rattle.file.specs.Lines.{lineFeed, linesFrom, restFrom, Unended}
 use Rattle.file.specs.Judging.{File, taken, refused, settledReading, firstTick, firstNegative, appendedBy, reachesBy, takeS, openedBy, takeFirstS, takeHead, takeEnd, onNothing, onHeaded, onOpen, onFrame, takeLine, takeLines, begun}
 use Rattle.file.proofs.Cutting.{line-next, rest-next}
-use Rattle.writing.specs.Writing.{sFrame, laterFrames, sFrames, bytesOf}
+use Rattle.writing.specs.Writing.{headFrame, sFrame, laterFrames, sFrames, bytesOf}
 use Rattle.writing.proofs.Output.{run-few}
 use Rattle.writing.proofs.Again.{recordOf, Takeable, step-accepted, step-record, step-words}
 
@@ -167,7 +167,7 @@ module _ (h : Head) (words : ℕ) (x : Run) (ys : List Run) (k : Takeable h (x .
   headed : Reading
   headed = record { stage = Headed; lines = 0 + 1; rec = freshRecord h (record { 0 = 0 }) }
 
-  head-taken : onFrame Nothing (begun came .reading) came (HeadFrame (fieldsOf h)) ≡ record { reading = headed; words = came }
+  head-taken : onFrame Nothing (begun came .reading) came (headFrame h) ≡ record { reading = headed; words = came }
   unfolding onNothing takeHead headed
   head-taken = ap (λ b. cond b (taken Headed (begun came .reading) (freshRecord h (record { 0 = 0 })) came) (refused refusal.OverLimit (begun came .reading) came)) (k .held)
 
@@ -182,7 +182,7 @@ module _ (h : Head) (words : ℕ) (x : Run) (ys : List Run) (k : Takeable h (x .
       ap₂ (λ (y : Record) (vs : List ℕ). takeS (record { stage = Headed; lines = 0 + 1; rec = y }) vs Joins s) (ap (λ t. freshRecord h (tickOf t)) there ∙ fresh-is) zeros-are ∙
       run-taken h (x .start .0) words [] x ys k fresh-agrees Headed (0 + 1) (x .start .0)
 
-  pub frames-taken : takeFrames (begun came) (HeadFrame (fieldsOf h) ∷ sFrames (x ∷ ys) ++ End (length (x ∷ ys)) ∷ []) ≡
+  pub frames-taken : takeFrames (begun came) (headFrame h ∷ sFrames (x ∷ ys) ++ End (length (x ∷ ys)) ∷ []) ≡
       runsTaken h (x .start .0) words (x ∷ ys) Ended (2 + length ys + 1)
   unfolding sFrames onOpen takeEnd headed
   frames-taken =

@@ -23,7 +23,7 @@ use Rattle.runs.proofs.Walking.{place-there}
 use Rattle.frames.specs.Fields.{allOnes}
 use Rattle.frames.specs.declared.Frame.{Frame}
 use Rattle.frames.specs.declared.Frame.the-variants.{Bad}
-use Rattle.frames.specs.Frames.{Fits, lineLength, kindOf, endedLine, Written as WrittenLine}
+use Rattle.frames.specs.Frames.{Fits, lineLength, endedLength, kindOf, endedLine, Written as WrittenLine}
 use Rattle.writing.specs.Writing.{sFrame, laterFrames, sFrames, bytesOf}
 
 -- ---- the rest of an output
@@ -113,11 +113,11 @@ module _ (ws : List ℕ) (i : ℕ) (r : Run) (e : r ≡ runAt ws (i * 3)) where
 
 pub record Lined (ws : List ℕ) (used : ℕ) (out₀ out : List ℕ) (at i : ℕ) : Type 0 where
   pub within : i ≤ used
-  pub place : at ≡ 35 * i
+  pub place : at ≡ endedLength 2 * i
   pub long : length out ≡ length out₀
   pub bytes : out ≡ bytesOf (take i (sFrames (runsOf used ws))) ++ drop at out₀
 
-module _ (ws : List ℕ) (used : ℕ) (out₀ : List ℕ) (h : (shaped used ws ≡ true) × (length (keptIn used ws) ≤ 2 ^ 31) × (35 * used ≤ length out₀)) where
+module _ (ws : List ℕ) (used : ℕ) (out₀ : List ℕ) (h : (shaped used ws ≡ true) × (length (keptIn used ws) ≤ 2 ^ 31) × (endedLength 2 * used ≤ length out₀)) where
   pub lined-none : Lined ws used out₀ out₀ 0 0
   unfolding bytesOf
   lined-none = record { within = omega arith; place = omega arith; long = refl; bytes = refl }
@@ -172,7 +172,7 @@ module _ (ws : List ℕ) (used : ℕ) (out₀ : List ℕ) (h : (shaped used ws �
             (fits, omega (arith, part-long, w .place, w .long, h .2))
 
         module _ (n : ℕ) (ys : List ℕ) (k : WrittenLine f (take (length out - at) (drop at out)) ys n) where
-          step : n ≡ 35
+          step : n ≡ endedLength 2
           step = k .long ∙ ap (λ g. lineLength (kindOf g) + 1) e
 
           pub lined-fits : length out₀ < 2 ^ 64 → FitsWord w64 (at + n)
@@ -223,10 +223,10 @@ module _ (ws : List ℕ) (used : ℕ) (out₀ : List ℕ) (h : (shaped used ws �
       all : i ≡ used
       all = omega (arith, w .within)
 
-      pub lined-length : at ≡ 35 * used
-      lined-length = w .place ∙ ap (λ (n : ℕ). 35 * n) all
+      pub lined-length : at ≡ endedLength 2 * used
+      lined-length = w .place ∙ ap (λ (n : ℕ). endedLength 2 * n) all
 
-      pub lined-all : out ≡ bytesOf (sFrames (runsOf used ws)) ++ drop (35 * used) out₀
+      pub lined-all : out ≡ bytesOf (sFrames (runsOf used ws)) ++ drop (endedLength 2 * used) out₀
       lined-all =
           w .bytes ∙
           ap₂ (λ (fs : List Frame) (m : ℕ). bytesOf fs ++ drop m out₀)

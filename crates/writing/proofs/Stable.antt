@@ -36,7 +36,7 @@ use Rattle.file.specs.declared.Stage.the-variants.{Ended}
 use Rattle.file.specs.Lines.{restOf}
 use Rattle.file.specs.Judging.{File, begun, readLines, stopOutcome, readOutcome, answeredBy, readAnswer, zeroed, readTable}
 use Rattle.file.proofs.Accepted.{read-agrees, read-length}
-use Rattle.writing.specs.Writing.{withFirst, laterFrames, sFrames, bytesOf, fileOf, keptHead, fileFor, readBack}
+use Rattle.writing.specs.Writing.{headFrame, withFirst, laterFrames, sFrames, bytesOf, fileOf, keptHead, fileFor, readBack}
 use Rattle.writing.proofs.Output.{s-fits}
 use Rattle.writing.proofs.Whole.{kept-few, head-fits, end-fits}
 use Rattle.writing.proofs.Again.{recordOf, Takeable}
@@ -119,6 +119,7 @@ module _ (rec : Record) (ws : List ℕ) (a : agrees rec ws ≡ true) (came : Lis
                 duration = h .duration;
                 depth = h .depth;
                 first = omega (arith, d .numbers, d .dropped);
+                update = d .head .update;
               });
           shape = shape;
           start = refl;
@@ -140,12 +141,12 @@ module _ (rec : Record) (ws : List ℕ) (a : agrees rec ws ≡ true) (came : Lis
         }
 
     frames : List Frame
-    frames = HeadFrame (fieldsOf head) ∷ sFrames (x ∷ ys) ++ End (length (x ∷ ys)) ∷ []
+    frames = headFrame head ∷ sFrames (x ∷ ys) ++ End (length (x ∷ ys)) ∷ []
 
     file-is : fileFor rec ws ≡ bytesOf frames
     unfolding fileOf frames head
     file-is =
-        ap₂ (λ (rs : List Run) (n : ℕ). bytesOf (HeadFrame (fieldsOf (keptHead rec)) ∷ sFrames rs ++ End n ∷ []))
+        ap₂ (λ (rs : List Run) (n : ℕ). bytesOf (headFrame (keptHead rec) ∷ sFrames rs ++ End n ∷ []))
         (encoded (runsOf (rec .used) ws) (runs-shaped (rec .used) ws (facts .table)) ∙ e)
         (runs-for-kept (rec .used) ws (facts .table) ∙ sym many)
 

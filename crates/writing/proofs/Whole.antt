@@ -1,5 +1,5 @@
 -- The whole file that is written: how long it is, its lines one behind the other in the output, and the refusals in their order.
-use mathlib.Core.Path.{_≡_, refl, sym, ap, ap₂, subst⁻¹, _∙_}
+use mathlib.Core.Path.{_≡_, refl, sym, ap, ap₂, subst, subst⁻¹, _∙_}
 use mathlib.Core.Bool.{Bool, true, false, cond, not}
 use mathlib.Core.List.{List, [], _∷_, _++_, append-assoc, append-nil}
 use Prim.Native.Nat.{ℕ, _+_, _-_, _*_, _^_, _≤_, _<_}
@@ -12,8 +12,6 @@ use mir.Syntax.{w64}
 use mir.Val.{Fits as FitsWord}
 use Rattle.units.proofs.Guards.{told, refused, allowed, at-most, above, same, other}
 use Rattle.units.specs.Limits.{largestNumber}
-use Rattle.window.specs.declared.Head.{Head}
-use Rattle.window.specs.declared.HeadFields.{HeadFields}
 use Rattle.window.specs.Limits.{fieldsOf}
 use Rattle.runs.specs.declared.Run.{Run}
 use Rattle.runs.specs.Words.{runsOf, keptIn}
@@ -26,30 +24,31 @@ use Rattle.agreement.specs.declared.refusal.Refusal.the-variants.{Disagreement,
 use Rattle.agreement.specs.Agreement.{kept, agrees}
 use Rattle.agreement.proofs.Agreeing.{Agreeing, agreeing}
 use Rattle.frames.specs.Fields.{allOnes}
+use Rattle.frames.specs.declared.HeadLine.{HeadLine}
 use Rattle.frames.specs.declared.Frame.the-variants.{Head as HeadFrame, End}
-use Rattle.frames.specs.Frames.{Fits, lineWidths, lineLength, kindOf, lineOf, endedLine, Written as WrittenLine}
+use Rattle.frames.specs.Frames.{headLine, Fits, lineWidths, lineLength, endedLength, kindOf, lineOf, endedLine, Written as WrittenLine}
 use Rattle.frames.proofs.Lines.{length-ended}
 use Rattle.frames.proofs.Rows.{length-fields}
 use Rattle.writing.specs.declared.WriteAnswer.{WriteAnswer}
 use Rattle.writing.specs.declared.WriteAnswer.the-variants.{Written, Refused}
-use Rattle.writing.specs.Writing.{sFrame, laterFrames, sFrames, bytesOf, fileOf, keptHead, fileFor, writeAnswer, outputBy}
+use Rattle.writing.specs.Writing.{headFrame, sFrame, laterFrames, sFrames, bytesOf, fileOf, keptHead, fileFor, writeAnswer, outputBy}
 use Rattle.writing.proofs.Output.{tail-put, bytes-append, runs-few}
 
 -- ---- the whole file
 
--- an S line and its feed take 35 bytes, whatever its fields
-s-long : (t : ℕ) (r : Run) → length (endedLine (sFrame t r)) ≡ 35
+-- the bytes of an S line and its feed, whatever its fields
+s-long : (t : ℕ) (r : Run) → length (endedLine (sFrame t r)) ≡ endedLength 2
 unfolding endedLine lineOf
 s-long t r =
     length-append (lineOf (sFrame t r)) (10 ∷ []) ∙ ap (λ (n : ℕ). n + 1) (length-fields (lineWidths 2) (2 ∷ t ∷ r .span .0 ∷ (r .count - 1) ∷ []) refl)
 
-later-long : (rs : List Run) → length (bytesOf (laterFrames rs)) ≡ 35 * length rs
+later-long : (rs : List Run) → length (bytesOf (laterFrames rs)) ≡ endedLength 2 * length rs
 unfolding bytesOf laterFrames
 later-long [] = refl
 later-long (r ∷ rs) =
     omega (arith, length-append (endedLine (sFrame allOnes r)) (bytesOf (laterFrames rs)), s-long allOnes r, later-long rs)
 
-runs-long : (rs : List Run) → length (bytesOf (sFrames rs)) ≡ 35 * length rs
+runs-long : (rs : List Run) → length (bytesOf (sFrames rs)) ≡ endedLength 2 * length rs
 unfolding bytesOf sFrames
 runs-long [] = refl
 runs-long (r ∷ rs) =
@@ -65,7 +64,7 @@ module _ (rec : Record) (ws : List ℕ) (a : agrees rec ws ≡ true) where
   used-few : rec .used ≤ 2 ^ 31
   used-few = omega (arith, runs-few (runsOf (rec .used) ws) (runs-shaped (rec .used) ws (facts .table)), runs-length (rec .used) ws, kept-few)
 
-  pub head-fits : Fits (HeadFrame (fieldsOf (keptHead rec)))
+  pub head-fits : Fits (headFrame (keptHead rec))
   head-fits =
       let h = facts .held .head in
       record {
@@ -76,7 +75,7 @@ module _ (rec : Record) (ws : List ℕ) (a : agrees rec ws ≡ true) where
             omega (arith, h .offset),
             (
               omega (arith, h .start),
-              (omega (arith, h .duration), (omega (arith, h .depth), (omega (arith, facts .held .numbers, facts .held .dropped), tt))),
+              (omega (arith, h .duration), (omega (arith, h .depth), (omega (arith, facts .held .numbers, facts .held .dropped), (omega (arith, h .update), tt)))),
             ),
           ),
         );
@@ -86,26 +85,26 @@ module _ (rec : Record) (ws : List ℕ) (a : agrees rec ws ≡ true) where
   end-fits = record { known = refl; fields = (omega (arith, used-few), tt) }
 
   -- its lines, as they are written
-  file-lines : fileFor rec ws ≡ (endedLine (HeadFrame (fieldsOf (keptHead rec))) ++ bytesOf (sFrames (runsOf (rec .used) ws))) ++ endedLine (End (rec .used))
+  file-lines : fileFor rec ws ≡ (endedLine (headFrame (keptHead rec)) ++ bytesOf (sFrames (runsOf (rec .used) ws))) ++ endedLine (End (rec .used))
   unfolding fileOf bytesOf
   file-lines =
       let runs = runsOf (rec .used) ws in
-      ap₂ (λ (rs : List Run) (n : ℕ). endedLine (HeadFrame (fieldsOf (keptHead rec))) ++ bytesOf (sFrames rs ++ End n ∷ []))
+      ap₂ (λ (rs : List Run) (n : ℕ). endedLine (headFrame (keptHead rec)) ++ bytesOf (sFrames rs ++ End n ∷ []))
       (encoded runs (runs-shaped (rec .used) ws (facts .table)))
       (runs-for-kept (rec .used) ws (facts .table)) ∙
-      ap (λ bs. endedLine (HeadFrame (fieldsOf (keptHead rec))) ++ bs)
+      ap (λ bs. endedLine (headFrame (keptHead rec)) ++ bs)
       (bytes-append (sFrames runs) (End (rec .used) ∷ []) ∙ ap (λ bs. bytesOf (sFrames runs) ++ bs) (append-nil (endedLine (End (rec .used))))) ∙
-      sym (append-assoc (endedLine (HeadFrame (fieldsOf (keptHead rec)))) (bytesOf (sFrames runs)) (endedLine (End (rec .used))))
+      sym (append-assoc (endedLine (headFrame (keptHead rec))) (bytesOf (sFrames runs)) (endedLine (End (rec .used))))
 
-  head-long : length (endedLine (HeadFrame (fieldsOf (keptHead rec)))) ≡ 83
-  head-long = length-ended (HeadFrame (fieldsOf (keptHead rec))) head-fits
+  head-long : length (endedLine (headFrame (keptHead rec))) ≡ endedLength 5
+  head-long = length-ended (headFrame (keptHead rec)) head-fits
 
-  lines-long : length (bytesOf (sFrames (runsOf (rec .used) ws))) ≡ 35 * rec .used
-  lines-long = runs-long (runsOf (rec .used) ws) ∙ ap (λ (n : ℕ). 35 * n) (runs-length (rec .used) ws)
+  lines-long : length (bytesOf (sFrames (runsOf (rec .used) ws))) ≡ endedLength 2 * rec .used
+  lines-long = runs-long (runsOf (rec .used) ws) ∙ ap (λ (n : ℕ). endedLength 2 * n) (runs-length (rec .used) ws)
 
-  file-length : length (fileFor rec ws) ≡ 83 + 35 * rec .used + 11
+  file-length : length (fileFor rec ws) ≡ endedLength 5 + endedLength 2 * rec .used + endedLength 3
   file-length =
-      let head = endedLine (HeadFrame (fieldsOf (keptHead rec))) in
+      let head = endedLine (headFrame (keptHead rec)) in
       let lines = bytesOf (sFrames (runsOf (rec .used) ws)) in
       omega (
         arith,
@@ -121,25 +120,25 @@ module _ (rec : Record) (ws : List ℕ) (a : agrees rec ws ≡ true) where
     pub all-number : rec .head .first .0 + rec .dropped ≤ largestNumber
     all-number = omega (arith, facts .held .numbers, facts .held .dropped)
 
-    module _ (kept-first : Head) (same : kept-first ≡ keptHead rec) (hd : HeadFields) (i : hd ≡ fieldsOf kept-first) where
-      e : hd ≡ fieldsOf (keptHead rec)
-      e = i ∙ ap fieldsOf same
-
+    module _ (hd : HeadLine) (e : hd ≡ headLine (fieldsOf (keptHead rec))) where
       pub all-head : Fits (HeadFrame hd) × (lineLength (kindOf (HeadFrame hd)) < length out)
-      all-head = (subst⁻¹ (λ h. Fits (HeadFrame h)) e head-fits, omega (arith, file-length, room))
+      all-head = subst⁻¹ (λ h. Fits (HeadFrame h) × (lineLength (kindOf (HeadFrame h)) < length out)) e (head-fits, omega (arith, file-length, room))
 
-      module _ (n : ℕ) (first : List ℕ) (k : WrittenLine (HeadFrame hd) out first n) where
-        first-is : first ≡ endedLine (HeadFrame (fieldsOf (keptHead rec))) ++ drop 83 out
-        first-is = k .bytes ∙ ap (λ h. endedLine (HeadFrame h) ++ drop 83 out) e
+      module _ (n : ℕ) (first : List ℕ) (w : WrittenLine (HeadFrame hd) out first n) where
+        k : WrittenLine (headFrame (keptHead rec)) out first n
+        k = subst (λ h. WrittenLine (HeadFrame h) out first n) e w
+
+        first-is : first ≡ endedLine (headFrame (keptHead rec)) ++ drop (endedLength 5) out
+        first-is = k .bytes
 
         first-long : length first ≡ length out
         first-long =
             omega (
               arith,
               ap length first-is,
-              length-append (endedLine (HeadFrame (fieldsOf (keptHead rec)))) (drop 83 out),
+              length-append (endedLine (headFrame (keptHead rec))) (drop (endedLength 5) out),
               head-long,
-              length-drop 83 out,
+              length-drop (endedLength 5) out,
               file-length,
               room,
             )
@@ -147,7 +146,7 @@ module _ (rec : Record) (ws : List ℕ) (a : agrees rec ws ≡ true) where
         pub all-start : n ≤ length first
         all-start = omega (arith, k .long, first-long, file-length, room)
 
-        pub all-runs : (shaped (rec .used) ws ≡ true) × (length (keptIn (rec .used) ws) ≤ 2 ^ 31) × (35 * rec .used ≤ length (take (length first - n) (drop n first)))
+        pub all-runs : (shaped (rec .used) ws ≡ true) × (length (keptIn (rec .used) ws) ≤ 2 ^ 31) × (endedLength 2 * rec .used ≤ length (take (length first - n) (drop n first)))
         all-runs = (
           facts .table,
           kept-few,
@@ -155,23 +154,23 @@ module _ (rec : Record) (ws : List ℕ) (a : agrees rec ws ≡ true) where
         )
 
         module _ (m : ℕ) (ys : List ℕ)
-            (j : (m ≡ 35 * rec .used) × (ys ≡ bytesOf (sFrames (runsOf (rec .used) ws)) ++ drop (35 * rec .used) (take (length first - n) (drop n first)))) where
+            (j : (m ≡ endedLength 2 * rec .used) × (ys ≡ bytesOf (sFrames (runsOf (rec .used) ws)) ++ drop (endedLength 2 * rec .used) (take (length first - n) (drop n first)))) where
           second : List ℕ
           second = putMid n (length first - n) first ys
 
-          second-is : second ≡ (endedLine (HeadFrame (fieldsOf (keptHead rec))) ++ bytesOf (sFrames (runsOf (rec .used) ws))) ++ drop (n + m) out
+          second-is : second ≡ (endedLine (headFrame (keptHead rec)) ++ bytesOf (sFrames (runsOf (rec .used) ws))) ++ drop (n + m) out
           unfolding second
           second-is =
               let lines = bytesOf (sFrames (runsOf (rec .used) ws)) in
-              tail-put first (endedLine (HeadFrame (fieldsOf (keptHead rec)))) (drop 83 out) lines ys n (35 * rec .used) first-is (head-long ∙ sym (k .long)) (j .1) ∙
-              ap (λ bs. (endedLine (HeadFrame (fieldsOf (keptHead rec))) ++ lines) ++ bs)
-              (drop-drop (35 * rec .used) 83 out ∙ ap₂ (λ (x y : ℕ). drop (x + y) out) (sym (k .long)) (sym (j .0)))
+              tail-put first (endedLine (headFrame (keptHead rec))) (drop (endedLength 5) out) lines ys n (endedLength 2 * rec .used) first-is (head-long ∙ sym (k .long)) (j .1) ∙
+              ap (λ bs. (endedLine (headFrame (keptHead rec)) ++ lines) ++ bs)
+              (drop-drop (endedLength 2 * rec .used) (endedLength 5) out ∙ ap₂ (λ (x y : ℕ). drop (x + y) out) (sym (k .long)) (sym (j .0)))
 
-          joint : length (endedLine (HeadFrame (fieldsOf (keptHead rec))) ++ bytesOf (sFrames (runsOf (rec .used) ws))) ≡ n + m
+          joint : length (endedLine (headFrame (keptHead rec)) ++ bytesOf (sFrames (runsOf (rec .used) ws))) ≡ n + m
           joint =
               omega (
                 arith,
-                length-append (endedLine (HeadFrame (fieldsOf (keptHead rec)))) (bytesOf (sFrames (runsOf (rec .used) ws))),
+                length-append (endedLine (headFrame (keptHead rec))) (bytesOf (sFrames (runsOf (rec .used) ws))),
                 head-long,
                 lines-long,
                 k .long,
@@ -183,7 +182,7 @@ module _ (rec : Record) (ws : List ℕ) (a : agrees rec ws ≡ true) where
               omega (
                 arith,
                 ap length second-is,
-                length-append (endedLine (HeadFrame (fieldsOf (keptHead rec))) ++ bytesOf (sFrames (runsOf (rec .used) ws))) (drop (n + m) out),
+                length-append (endedLine (headFrame (keptHead rec)) ++ bytesOf (sFrames (runsOf (rec .used) ws))) (drop (n + m) out),
                 joint,
                 length-drop (n + m) out,
                 k .long,
@@ -230,9 +229,9 @@ module _ (rec : Record) (ws : List ℕ) (a : agrees rec ws ≡ true) where
             unfolding second
             all-bytes =
                 let lines = bytesOf (sFrames (runsOf (rec .used) ws)) in
-                tail-put second (endedLine (HeadFrame (fieldsOf (keptHead rec))) ++ lines) (drop (n + m) out) (endedLine (End (rec .used))) zs (n + m) 11 second-is joint
+                tail-put second (endedLine (headFrame (keptHead rec)) ++ lines) (drop (n + m) out) (endedLine (End (rec .used))) zs (n + m) (endedLength 3) second-is joint
                 (q .bytes) ∙
-                ap₂ _++_ (sym file-lines) (drop-drop 11 (n + m) out ∙ ap (λ (x : ℕ). drop (n + m + x) out) (sym (q .long)))
+                ap₂ _++_ (sym file-lines) (drop-drop (endedLength 3) (n + m) out ∙ ap (λ (x : ℕ). drop (n + m + x) out) (sym (q .long)))
 
 -- ---- the refusals
 
@@ -264,20 +263,20 @@ module _ (rec : Record) (ws out : List ℕ) (t : Bool) (e : t ≡ agrees rec ws)
       few-runs : rec .used ≤ 2 ^ 31
       few-runs = used-few rec ws write-agrees
 
-      pub write-product : FitsWord w64 (35 * rec .used)
+      pub write-product : FitsWord w64 (endedLength 2 * rec .used)
       write-product = record { fits = omega (arith, few-runs) }
 
-      pub write-total : FitsWord w64 (94 + 35 * rec .used)
+      pub write-total : FitsWord w64 (endedLength 5 + endedLength 3 + endedLength 2 * rec .used)
       write-total = record { fits = omega (arith, few-runs) }
 
-      pub write-short : length out < 94 + 35 * rec .used →
+      pub write-short : length out < endedLength 5 + endedLength 3 + endedLength 2 * rec .used →
           (Refused ShortOutput ≡ writeAnswer rec ws (length out)) × (out ≡ outputBy (writeAnswer rec ws (length out)) (fileFor rec ws) out)
       unfolding outputBy
       write-short l =
           let over : length out < length (fileFor rec ws) = omega (arith, file-length rec ws write-agrees) in
           output-of (Refused ShortOutput) (kept-some _ (above _ _ _ _ over)) out refl
 
-      module _ (l : 94 + 35 * rec .used ≤ length out) where
+      module _ (l : endedLength 5 + endedLength 3 + endedLength 2 * rec .used ≤ length out) where
         pub write-asks : (agrees rec ws ≡ true) × (length (fileFor rec ws) ≤ length out)
         write-asks = (write-agrees, omega (arith, file-length rec ws write-agrees))
 

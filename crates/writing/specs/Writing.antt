@@ -1,4 +1,4 @@
--- Writing gives the head with the number of the first kept reference, one S line for each used run with t on the first only, and the end with the
+-- Writing gives the head, with its update period and with the number of the first kept reference, one S line for each used run with t on the first only, and the end with the
 -- number of S lines. It is refused where record and table disagree, where no run is kept, and where the output is shorter than the whole file: then
 -- no byte changes. Paper: The file; Refusal numbers, 2, 12 and 15.
 use Prim.Native.Nat.{ℕ, _+_, _-_}
@@ -18,14 +18,14 @@ use Rattle.agreement.specs.Numbers.{refusalNumber}
 use Rattle.frames.specs.declared.Frame.{Frame}
 use Rattle.frames.specs.declared.Frame.the-variants.{Head as HeadFrame, S, End}
 use Rattle.frames.specs.Fields.{allOnes}
-use Rattle.frames.specs.Frames.{endedLine}
+use Rattle.frames.specs.Frames.{headLine, endedLine}
 use Rattle.writing.specs.declared.WriteAnswer.{WriteAnswer}
 use Rattle.writing.specs.declared.WriteAnswer.the-variants.{Written, Refused}
 
 -- a head whose first reference has another number
 abbrev pub withFirst : Head → ℕ → Head
 withFirst h n =
-    record { timescale = h .timescale; offset = h .offset; start = h .start; duration = h .duration; depth = h .depth; first = record { 0 = n } }
+    record { timescale = h .timescale; offset = h .offset; start = h .start; duration = h .duration; depth = h .depth; first = record { 0 = n }; update = h .update }
 
 -- the S line of a run: r is one less than its count
 abbrev pub sFrame : ℕ → Run → Frame
@@ -44,9 +44,13 @@ unfoldable pub bytesOf : List Frame → List ℕ
 bytesOf [] = []
 bytesOf (f ∷ fs) = endedLine f ++ bytesOf fs
 
+-- the head line that is written has the update period, also where a line without one was read
+abbrev pub headFrame : Head → Frame
+headFrame h = HeadFrame (headLine (fieldsOf h))
+
 -- the file of references under a head, which has the number of the first
 unfoldable pub fileOf : Head → List Reference → List ℕ
-fileOf h rs = bytesOf (HeadFrame (fieldsOf h) ∷ sFrames (encode rs) ++ End (runsFor rs) ∷ [])
+fileOf h rs = bytesOf (headFrame h ∷ sFrames (encode rs) ++ End (runsFor rs) ∷ [])
 
 -- the file of what record and table keep: the first kept reference has the first number plus those dropped
 abbrev pub keptHead : Record → Head

@@ -6,18 +6,20 @@ ghost use Prim.Native.Nat.{_+_, _*_, _≤_, _<_, _^_};
 ghost use lib.Dec.{eqb};
 ghost use lib.ListN.{length, drop};
 ghost use Rattle.units.specs.Limits.{largestNumber};
+ghost use Rattle.window.specs.Limits.{fieldsOf};
 ghost use Rattle.runs.specs.Words.{runAt, runsOf, keptIn};
 ghost use Rattle.runs.specs.Shape.{shaped};
 ghost use Rattle.agreement.specs.Agreement.{agrees};
 ghost use Rattle.frames.specs.Fields.{allOnes};
+ghost use Rattle.frames.specs.Frames.{endedLength, headLine};
 ghost use Rattle.writing.specs.Writing.{keptHead, sFrame, sFrames, bytesOf, fileFor, writeAnswer, outputBy, writeNumber};
 use agreement::Record;
 use agreement::Refusal;
 use frames::Frame;
+use frames::HeadLine;
 use frames::SFields;
 use units::Number;
 use units::WideTick;
-use window::Head;
 
 // The length written, or why nothing was.
 pub enum WriteAnswer {
@@ -38,19 +40,20 @@ impl WriteAnswer {
 }
 
 // The bytes of a head line and an end line, and of an S line, each with its feed.
-const HEAD_AND_END_BYTES: usize = 94;
+const HEAD_AND_END_BYTES: usize = frames::HEAD_DIGITS + 1 + frames::END_DIGITS + 1;
 
-const S_BYTES: usize = 35;
+const S_BYTES: usize = frames::S_DIGITS + 1;
 
-// Inner: callers show that the number is held. The head with the number of the first kept reference.
-fn kept_head(rec: Record) -> Head
+// Inner: callers show that the number is held. The line of the head, with the number of the first kept
+// reference.
+fn head_line(rec: Record) -> HeadLine
     requires { ⌜ rec .head .first .0 + rec .dropped ≤ largestNumber ⌝ }
-    ensures { λ r. ⌜ r ≡ keptHead rec ⌝ }
+    ensures { λ r. ⌜ r ≡ headLine (fieldsOf (keptHead rec)) ⌝ }
 {
     let first = Number(rec.head.first.0 + rec.dropped);
     let mut head = rec.head;
     head.first = first;
-    head
+    HeadLine::of(head.fields())
 }
 
 // Inner: callers show that the run is there and counts. The S line of a run, with t on the first.
@@ -71,8 +74,8 @@ fn s_frame(table: &[u64], i: usize) -> Frame
 
 // Inner: callers show that the table is shaped, keeps few enough references, and that there is room.
 fn write_runs(table: &[u64], used: usize, out: &mut [u8]) -> usize
-    requires { ⌜ (shaped used (now table) ≡ true) × (length (keptIn used (now table)) ≤ 2 ^ 31) × (35 * used ≤ length (now out)) ⌝ }
-    ensures { λ r. ⌜ (r ≡ 35 * used) × (now (out .exit) ≡ bytesOf (sFrames (runsOf used (now (table .entry)))) ++ drop (35 * used) (now (out .entry))) ⌝ }
+    requires { ⌜ (shaped used (now table) ≡ true) × (length (keptIn used (now table)) ≤ 2 ^ 31) × (endedLength 2 * used ≤ length (now out)) ⌝ }
+    ensures { λ r. ⌜ (r ≡ endedLength 2 * used) × (now (out .exit) ≡ bytesOf (sFrames (runsOf used (now (table .entry)))) ++ drop (endedLength 2 * used) (now (out .entry))) ⌝ }
 {
     let mut at = 0;
     let mut i = 0;
@@ -89,8 +92,8 @@ fn write_all(rec: Record, table: &[u64], out: &mut [u8]) -> usize
     ensures { λ r. ⌜ (r ≡ length (fileFor rec (now (table .entry)))) × (now (out .exit) ≡ fileFor rec (now (table .entry)) ++ drop r (now (out .entry))) ⌝ }
 {
     let used = rec.used;
-    let first = kept_head(rec);
-    let head = frames::write_line(out, Frame::Head(first.fields()));
+    let line = head_line(rec);
+    let head = frames::write_line(out, Frame::Head(line));
     let runs = write_runs(table, used, &mut out[head..]);
     let at = head + runs;
     at + frames::write_line(&mut out[at..], Frame::End(used as u64))

@@ -102,7 +102,7 @@ pub const PLAIN: Face = Face {
 };
 
 /// An opening as the sides have it, each field by itself.
-type OpenByFields = fn(&mut [u64], &mut [u64], u32, u64, u64, u64, u64, u32, u64) -> u32;
+type OpenByFields = fn(&mut [u64], &mut [u64], u32, u64, u64, u64, u64, u32, u64, u64) -> u32;
 
 fn open_by_fields(
     open: OpenByFields,
@@ -119,6 +119,7 @@ fn open_by_fields(
         opening.duration,
         opening.depth,
         opening.first_number,
+        opening.update,
         opening.first_tick,
     )
 }

@@ -171,6 +171,7 @@ pub fn inputs_of(bytes: &[u8]) -> Vec<Vec<u8>> {
         500,
         14_000,
         18_000,
+        18_001,
         20_000,
         20_001,
         limits::MILLIS,

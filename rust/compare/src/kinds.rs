@@ -15,9 +15,10 @@
 use flonterri::words::{word, RUN_WORDS};
 
 use crate::limits;
+use crate::lines::{head_of, lines, refused_line, HEADS, REFUSED_LINES};
 use crate::sequence::Made;
 use crate::state::State;
-use crate::step::{Call, Step};
+use crate::step::{Call, Damage, Place, Step};
 use crate::tally::Tally;
 use crate::text::{clock_line, s_fields, ALL_ONES};
 
@@ -46,41 +47,6 @@ const NUMBERS: [(&str, &[&str]); 13] = [
     ("write", &["0", "2", "12", "15"]),
 ];
 
-/// The numbers that a file's line can be refused with, by the kind of the line.
-const REFUSED_LINES: [&str; 31] = [
-    "1 head",
-    "1 S",
-    "1 S with negative r",
-    "3 S",
-    "3 S with negative r",
-    "4 S",
-    "4 S with negative r",
-    "5 S",
-    "5 S with negative r",
-    "6 S",
-    "6 S with negative r",
-    "7 S",
-    "7 S with negative r",
-    "8 S",
-    "8 S with negative r",
-    "9 S",
-    "9 S with negative r",
-    "16 head",
-    "16 S",
-    "16 end",
-    "16 other kind",
-    "16 unended",
-    "16 missing",
-    "16 behind the end",
-    "17 head",
-    "17 S",
-    "17 S with negative r",
-    "17 S behind negative r",
-    "17 end too early",
-    "17 end with wrong count",
-    "18 S with negative r",
-];
-
 /// What an append can do with its references.
 const TAKEN: &[&str] = &[
     "all stored",
@@ -90,10 +56,25 @@ const TAKEN: &[&str] = &[
     "into the last run",
 ];
 
+/// Where the window of a verdict can end and begin.
+const WINDOWS: &[&str] = &[
+    "ends at the clock",
+    "ends past the clock",
+    "ends with the period",
+    "update period passes the period",
+    "clock before the period",
+    "clock plus update over the limit",
+];
+
 /// The ways in which calls can go besides their numbers.
-const WAYS: [(&str, &[&str]); 16] = [
+const WAYS: [(&str, &[&str]); 20] = [
     ("lengths", &["another record", "another out"]),
     ("damaged words", &["agree", "disagree"]),
+    ("damaged update", &["agree", "disagree"]),
+    (
+        "open update",
+        &["0", "1 or more", "the limit", "over the limit", "all ones"],
+    ),
     ("append taken", TAKEN),
     ("append_stamp taken", TAKEN),
     (
@@ -108,11 +89,21 @@ const WAYS: [(&str, &[&str]); 16] = [
         ],
     ),
     ("verdict kind", &["nothing needed", "complete", "lacking"]),
+    ("verdict window", WINDOWS),
     ("verdict_whole kind", &["complete", "lacking"]),
     ("availability kind", &["never ends", "ends"]),
     ("availability number", &["within 32 bits", "over 32 bits"]),
     ("available_at answer", &["yes", "no"]),
-    ("covered_edge kind", &["none", "a clock", "the limit"]),
+    (
+        "covered_edge kind",
+        &[
+            "none",
+            "none with update",
+            "a clock",
+            "a clock with update",
+            "the limit",
+        ],
+    ),
     ("full_tick kind", &["none", "joins", "a gap", "an overlap"]),
     (
         "touching part",
@@ -128,6 +119,7 @@ const WAYS: [(&str, &[&str]); 16] = [
             "negative r",
         ],
     ),
+    ("read head", HEADS),
     ("read refused", &REFUSED_LINES),
     (
         "write accepted",
@@ -136,6 +128,8 @@ const WAYS: [(&str, &[&str]); 16] = [
             "several S lines",
             "just the room",
             "room left",
+            "update 0",
+            "update above 0",
         ],
     ),
 ];
@@ -154,7 +148,9 @@ pub fn announce_inputs(tally: &mut Tally) {
         &["nothing needed", "complete", "lacking"],
     );
     tally.announce("desk, whole period", &["complete", "lacking"]);
-    tally.announce("desk refused, line 0", &["10", "16", "19"]);
+    tally.announce("desk head", HEADS);
+    let line_0 = &["10", "16", "16 head 01", "16 head 05", "19"];
+    tally.announce("desk refused, line 0", line_0);
     tally.announce("desk refused", &REFUSED_LINES);
 }
 
@@ -164,15 +160,7 @@ pub fn meet_call(tally: &mut Tally, made: &Made) {
     let number = made.answer.number;
     tally.meet(step.call.name(), &number.to_string());
     meet_memory(tally, step, number);
-    if let Call::Availability { number: asked } = step.call {
-        let over = asked > limits::NUMBER;
-        let size = if over {
-            "over 32 bits"
-        } else {
-            "within 32 bits"
-        };
-        tally.meet("availability number", size);
-    }
+    meet_asked(tally, step);
     if number == 0 {
         meet_accepted(tally, made);
     } else if let (Call::Read { bytes }, false) =
@@ -180,6 +168,32 @@ pub fn meet_call(tally: &mut Tally, made: &Made) {
     {
         let kind = refused_line(bytes, made.answer.out[0], number);
         tally.meet("read refused", &kind);
+    }
+}
+
+/// Counts sizes of what is asked for, whatever is answered.
+fn meet_asked(tally: &mut Tally, step: &Step) {
+    match &step.call {
+        Call::Availability { number } => {
+            let over = *number > limits::NUMBER;
+            let size = if over {
+                "over 32 bits"
+            } else {
+                "within 32 bits"
+            };
+            tally.meet("availability number", size);
+        }
+        Call::Open(opening) => {
+            let size = match opening.update {
+                0 => "0",
+                limits::MILLIS => "the limit",
+                u64::MAX => "all ones",
+                update if update > limits::MILLIS => "over the limit",
+                _ => "1 or more",
+            };
+            tally.meet("open update", size);
+        }
+        _ => {}
     }
 }
 
@@ -191,6 +205,10 @@ fn meet_memory(tally: &mut Tally, step: &Step, number: u32) {
     } else if !step.damage.is_empty() && !matches!(step.call, Call::Open(_) | Call::Read { .. }) {
         let item = if number == 2 { "disagree" } else { "agree" };
         tally.meet("damaged words", item);
+        let of_update = |damage: &Damage| damage.place == Place::Record(word::UPDATE_PERIOD);
+        if step.damage.iter().all(of_update) {
+            tally.meet("damaged update", item);
+        }
     }
 }
 
@@ -203,7 +221,10 @@ fn meet_accepted(tally: &mut Tally, made: &Made) {
             let dropped = dropped_by(&before(made), &after(made), *clock);
             tally.meet("trim dropped", dropped);
         }
-        Call::Verdict { .. } => tally.meet("verdict kind", verdict_kind(out[0])),
+        Call::Verdict { clock } => {
+            tally.meet("verdict kind", verdict_kind(out[0]));
+            meet_window(tally, &after(made), *clock);
+        }
         Call::VerdictWhole => tally.meet("verdict_whole kind", verdict_kind(out[0])),
         Call::Availability { .. } => {
             let kind = if out[0] == 0 { "never ends" } else { "ends" };
@@ -213,34 +234,63 @@ fn meet_accepted(tally: &mut Tally, made: &Made) {
             let available = if out[0] == 1 { "yes" } else { "no" };
             tally.meet("available_at answer", available);
         }
-        Call::CoveredEdge => tally.meet("covered_edge kind", edge_kind(out)),
+        Call::CoveredEdge => {
+            let update = made.answer.record[word::UPDATE_PERIOD];
+            tally.meet("covered_edge kind", edge_kind(out, update));
+        }
         Call::FullTick { .. } => {
             let next = made.answer.record[word::NEXT_TICK];
             tally.meet("full_tick kind", full_tick_kind(out, next));
         }
         Call::Touching { .. } => tally.meet("touching part", part(made, out)),
         Call::Read { bytes } => meet_read(tally, &after(made), bytes),
-        Call::Write { room } => {
-            let several = before(made).runs.len() > 1;
-            let lines = if several {
-                "several S lines"
-            } else {
-                "one S line"
-            };
-            let just = *room as u64 == out[0];
-            let left = if just { "just the room" } else { "room left" };
-            tally.meet("write accepted", lines);
-            tally.meet("write accepted", left);
-        }
+        Call::Write { room } => meet_write(tally, &after(made), *room as u64 == out[0]),
         Call::Open(_) => {}
     }
 }
 
-fn edge_kind(out: &[u64]) -> &'static str {
-    match out {
-        [0, _] => "none",
-        [_, clock] if *clock == limits::MILLIS => "the limit",
-        _ => "a clock",
+fn meet_write(tally: &mut Tally, written: &State, just: bool) {
+    let item = |yes: bool, item: &'static str, other: &'static str| if yes { item } else { other };
+    let several = item(written.runs.len() > 1, "several S lines", "one S line");
+    let left = item(just, "just the room", "room left");
+    let update = item(written.update > 0, "update above 0", "update 0");
+    for item in [several, left, update] {
+        tally.meet("write accepted", item);
+    }
+}
+
+/// Counts where the window of a verdict ends, and what else is rare of it.
+fn meet_window(tally: &mut Tally, state: &State, clock: u64) {
+    let upper = clock + state.update;
+    let end = match state.duration {
+        0 => u64::MAX,
+        duration => state.start + duration,
+    };
+    let ends = if end <= clock {
+        "ends with the period"
+    } else if end <= upper {
+        "update period passes the period"
+    } else if state.update > 0 {
+        "ends past the clock"
+    } else {
+        "ends at the clock"
+    };
+    tally.meet("verdict window", ends);
+    if clock < state.start && state.start < upper {
+        tally.meet("verdict window", "clock before the period");
+    }
+    if upper > limits::MILLIS {
+        tally.meet("verdict window", "clock plus update over the limit");
+    }
+}
+
+fn edge_kind(out: &[u64], update: u64) -> &'static str {
+    match (out, update) {
+        ([0, _], 0) => "none",
+        ([0, _], _) => "none with update",
+        ([_, limits::MILLIS], _) => "the limit",
+        (_, 0) => "a clock",
+        _ => "a clock with update",
     }
 }
 
@@ -333,6 +383,7 @@ fn meet_read(tally: &mut Tally, after: &State, bytes: &[u8]) {
         _ => "drops some",
     };
     tally.meet("read accepted", kept);
+    tally.meet("read head", head_of(bytes).unwrap_or("none"));
     if s_lines.len() > after.runs.len() && after.dropped == 0 {
         tally.meet("read accepted", "lines share a run");
     }
@@ -341,61 +392,18 @@ fn meet_read(tally: &mut Tally, after: &State, bytes: &[u8]) {
     }
 }
 
-fn lines(bytes: &[u8]) -> impl Iterator<Item = &[u8]> {
-    bytes.split(|byte| *byte == b'\n')
-}
-
-/// The number and the kind of a refused line of a file.
-pub fn refused_line(file: &[u8], line: u64, number: u32) -> String {
-    format!("{} {}", number, kind_of_line(file, line, number))
-}
-
-fn kind_of_line(file: &[u8], line: u64, number: u32) -> &'static str {
-    let at = line as usize - 1;
-    let all: Vec<&[u8]> = lines(file).collect();
-    // What stands behind the last line feed is no ended line; it may be empty.
-    let text = all.get(at).copied().unwrap_or(b"");
-    let before = at.checked_sub(1).and_then(|at| all.get(at).copied());
-    let behind_the_end = before.map_or(false, |before| before.starts_with(b"03"));
-    let behind_negative = before.and_then(s_fields).map_or(false, |s| s.2 < 0);
-    if number == 16 {
-        return match (text, at + 1 >= all.len()) {
-            _ if behind_the_end => "behind the end",
-            (b"", true) => "missing",
-            (_, true) => "unended",
-            (text, _) if text.starts_with(b"01") => "head",
-            (text, _) if text.starts_with(b"02") => "S",
-            (text, _) if text.starts_with(b"03") => "end",
-            _ => "other kind",
-        };
-    }
-    match (number, s_fields(text)) {
-        (17, Some(_)) if behind_negative => "S behind negative r",
-        (_, Some((_, _, r))) if r < 0 => "S with negative r",
-        (_, Some(_)) => "S",
-        (_, None) if text.starts_with(b"01") => "head",
-        (17, None) if line <= 2 => "end too early",
-        (17, None) => "end with wrong count",
-        _ => "other kind",
-    }
-}
-
 /// Counts what an input of the program has met, by the line that it answers.
 pub fn meet_input(tally: &mut Tally, input: &[u8], answer: &str) {
-    let whole = input.starts_with(&clock_line(ALL_ONES));
-    let group = if whole {
-        "desk, whole period"
-    } else {
-        "desk at a clock"
-    };
+    let file = input.splitn(2, |byte| *byte == b'\n').nth(1).unwrap_or(b"");
     let words: Vec<&str> = answer.split_whitespace().collect();
     match words[..] {
-        ["nothing", "needed"] => tally.meet(group, "nothing needed"),
-        ["complete", ..] => tally.meet(group, "complete"),
-        ["lacking", ..] => tally.meet(group, "lacking"),
-        ["refused", number, "line", "0"] => tally.meet("desk refused, line 0", number),
+        ["nothing", "needed"] => meet_line(tally, input, file, "nothing needed"),
+        ["complete", ..] => meet_line(tally, input, file, "complete"),
+        ["lacking", ..] => meet_line(tally, input, file, "lacking"),
+        ["refused", number, "line", "0"] => {
+            tally.meet("desk refused, line 0", &at_line_0(input, number));
+        }
         ["refused", number, "line", line] => {
-            let file = input.splitn(2, |byte| *byte == b'\n').nth(1).unwrap_or(b"");
             let kind = match (number.parse(), line.parse()) {
                 (Ok(number), Ok(line)) => refused_line(file, line, number),
                 _ => answer.to_string(),
@@ -403,5 +411,27 @@ pub fn meet_input(tally: &mut Tally, input: &[u8], answer: &str) {
             tally.meet("desk refused", &kind);
         }
         _ => tally.meet("desk refused", answer),
+    }
+}
+
+/// Counts the line of a verdict, and the head of the file that it judges.
+fn meet_line(tally: &mut Tally, input: &[u8], file: &[u8], kind: &str) {
+    let whole = input.starts_with(&clock_line(ALL_ONES));
+    let group = if whole {
+        "desk, whole period"
+    } else {
+        "desk at a clock"
+    };
+    tally.meet(group, kind);
+    if let Some(head) = head_of(file) {
+        tally.meet("desk head", head);
+    }
+}
+
+/// What is refused at line 0: a head that stands where the clock line should, or anything else.
+fn at_line_0(input: &[u8], number: &str) -> String {
+    match (number, head_of(input)) {
+        ("16", Some(head)) => format!("16 head {}", &head[..2]),
+        _ => number.to_string(),
     }
 }

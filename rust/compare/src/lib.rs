@@ -17,6 +17,7 @@ mod generator;
 mod inputs;
 mod kinds;
 mod limits;
+mod lines;
 mod opening;
 mod program;
 mod random;

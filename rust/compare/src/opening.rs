@@ -15,12 +15,14 @@ pub struct Opening {
     pub depth: u64,
     /// First number.
     pub first_number: u32,
+    /// Update period.
+    pub update: u64,
     /// First tick.
     pub first_tick: u64,
 }
 
 impl Opening {
-    /// A tick a millisecond, no known end, no depth, and 0 in every other field.
+    /// A tick a millisecond, no known end, no depth, no update period, and 0 in every other field.
     pub const OPEN_ENDED: Opening = Opening {
         timescale: 1000,
         offset: 0,
@@ -28,6 +30,7 @@ impl Opening {
         duration: 0,
         depth: 0,
         first_number: 0,
+        update: 0,
         first_tick: 0,
     };
 }

@@ -42,6 +42,8 @@ pub struct State {
     pub depth: u64,
     /// First number.
     pub first_number: u64,
+    /// Update period.
+    pub update: u64,
     /// References accepted.
     pub accepted: u64,
     /// References dropped.
@@ -65,6 +67,7 @@ impl State {
             duration: at(word::DURATION),
             depth: at(word::DEPTH),
             first_number: at(word::FIRST_NUMBER),
+            update: at(word::UPDATE_PERIOD),
             accepted: at(word::ACCEPTED),
             dropped: at(word::DROPPED),
             next_tick: at(word::NEXT_TICK),
@@ -91,6 +94,7 @@ impl State {
             duration: opening.duration,
             depth: opening.depth,
             first_number: u64::from(opening.first_number),
+            update: opening.update,
             accepted: 0,
             dropped: 0,
             next_tick: opening.first_tick,
@@ -152,10 +156,18 @@ impl State {
 
     /// A millisecond at which a tick's place leaves the window or just has left it.
     pub fn clock_that_passes(&self, tick: u64) -> u64 {
+        self.clock_past(tick, i128::from(self.depth))
+    }
+
+    /// A millisecond at which a tick's place comes into the window or just has come.
+    pub fn clock_that_reaches(&self, tick: u64) -> u64 {
+        self.clock_past(tick, -i128::from(self.update))
+    }
+
+    /// So many milliseconds past a tick's place, or at clock 0 where that lies before it.
+    fn clock_past(&self, tick: u64, later: i128) -> u64 {
         let timescale = i128::from(self.timescale.max(1));
-        let millis = self.place(tick).div_euclid(timescale)
-            + i128::from(self.start)
-            + i128::from(self.depth);
+        let millis = self.place(tick).div_euclid(timescale) + i128::from(self.start) + later;
         millis.clamp(0, i128::from(u64::MAX)) as u64
     }
 

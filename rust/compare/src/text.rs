@@ -10,6 +10,8 @@ pub const ALL_ONES: u64 = u64::MAX;
 pub enum Line {
     /// A head; the first tick of the opening is not in it.
     Head(Opening),
+    /// A head of the old kind: the update period is not in it either.
+    OldHead(Opening),
     /// An S line.
     S {
         /// Start.
@@ -29,20 +31,21 @@ impl Line {
     /// The line without its line feed.
     pub fn text(&self) -> String {
         match self {
-            Line::Head(head) => format!(
-                "01{:08x}{:016x}{:016x}{:016x}{:016x}{:08x}",
-                head.timescale,
-                head.offset,
-                head.start,
-                head.duration,
-                head.depth,
-                head.first_number
-            ),
+            Line::Head(head) => format!("05{}{:016x}", old_fields(head), head.update),
+            Line::OldHead(head) => format!("01{}", old_fields(head)),
             Line::S { t, d, r } => format!("02{:016x}{:08x}{:08x}", t, d, r),
             Line::End(s_lines) => format!("03{:08x}", s_lines),
             Line::Clock(clock) => format!("04{:016x}", clock),
         }
     }
+}
+
+/// The fields that both kinds of head have.
+fn old_fields(head: &Opening) -> String {
+    format!(
+        "{:08x}{:016x}{:016x}{:016x}{:016x}{:08x}",
+        head.timescale, head.offset, head.start, head.duration, head.depth, head.first_number
+    )
 }
 
 /// The lines with their line feeds.
@@ -82,10 +85,14 @@ pub fn s_fields(line: &[u8]) -> Option<(u64, u32, i32)> {
     Some((t, d as u32, r as u32 as i32))
 }
 
-/// The fields of a head line.
+/// The fields of a head line of either kind.
 pub fn head_fields(line: &[u8]) -> Option<Opening> {
-    let [timescale, offset, start, duration, depth, first_number] =
-        fields(line, "01", [8, 16, 16, 16, 16, 8])?;
+    let without_update = || {
+        let [a, b, c, d, e, f] = fields(line, "01", [8, 16, 16, 16, 16, 8])?;
+        Some([a, b, c, d, e, f, 0])
+    };
+    let [timescale, offset, start, duration, depth, first_number, update] =
+        fields(line, "05", [8, 16, 16, 16, 16, 8, 16]).or_else(without_update)?;
     Some(Opening {
         timescale: timescale as u32,
         offset,
@@ -93,6 +100,7 @@ pub fn head_fields(line: &[u8]) -> Option<Opening> {
         duration,
         depth,
         first_number: first_number as u32,
+        update,
         first_tick: 0,
     })
 }

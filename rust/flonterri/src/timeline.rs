@@ -9,7 +9,7 @@ use crate::words::{self, edge_kind, edge_word, full_tick_kind, full_tick_word};
 use crate::words::{touching_word, word, RECORD_WORDS, RUN_WORDS};
 
 /// Bytes of a written head line and end line, with their line feeds.
-const HEAD_AND_END_BYTES: usize = 83 + 11;
+const HEAD_AND_END_BYTES: usize = 99 + 11;
 
 /// Bytes of a written S line, with its line feed.
 const S_BYTES: usize = 35;
@@ -26,6 +26,28 @@ const S_BYTES: usize = 35;
 /// };
 /// assert_eq!(head.duration, Millis(0));
 /// ```
+///
+/// A player takes a live manifest and goes by it until the update period is over. So its references
+/// must reach that far past the clock, or the picture freezes although all up to the clock is there:
+///
+/// ```
+/// # use flonterri::{Head, Millis, Span, Tick, Timeline, Timescale};
+/// # fn main() -> Result<(), flonterri::OpenError> {
+/// let up_to_the_clock = Head { depth: Millis(10_000), ..Head::new(Timescale(1000)) };
+/// let two_seconds_more = Head { update: Millis(2000), ..up_to_the_clock };
+/// let verdict = |head, clock| -> Result<String, flonterri::OpenError> {
+///     let mut timeline = Timeline::open(head, Tick(0), 10)?;
+///     timeline.append(Tick(0), Span(4000), 5)?;
+///     Ok(timeline.verdict(clock)?.to_string())
+/// };
+/// // Twenty seconds are there. Who asks at 18.001 s goes by them until 20.001 s.
+/// let clock = Millis(18_001);
+/// assert_eq!(verdict(up_to_the_clock, clock)?, "complete 10000/10000 100%");
+/// assert_eq!(verdict(two_seconds_more, clock)?, "lacking 20000 11999/12000 99%");
+/// assert_eq!(verdict(two_seconds_more, Millis(18_000))?, "complete 12000/12000 100%");
+/// # Ok(())
+/// # }
+/// ```
 #[derive(Clone, Copy, Debug, PartialEq, Eq, Hash)]
 pub struct Head {
     /// Ticks a second.
@@ -40,17 +62,20 @@ pub struct Head {
     pub depth: Millis,
     /// The number of the first reference.
     pub first_number: Number,
+    /// Update period: how far past the clock the window reaches; 0: it ends at the clock.
+    pub update: Millis,
 }
 
 impl Head {
     /// A head with this timescale and 0 in every other field: a period that starts at
-    /// availabilityStartTime, with no known end and no depth.
+    /// availabilityStartTime, with no known end and no depth, and a window that ends at the clock.
     ///
     /// ```
     /// use flonterri::{Head, Millis, Timescale};
     ///
     /// let head = Head::new(Timescale(90_000));
     /// assert_eq!((head.timescale, head.depth), (Timescale(90_000), Millis(0)));
+    /// assert_eq!(head.update, Millis(0));
     /// ```
     pub fn new(timescale: Timescale) -> Head {
         Head {
@@ -60,6 +85,7 @@ impl Head {
             duration: Millis(0),
             depth: Millis(0),
             first_number: Number(0),
+            update: Millis(0),
         }
     }
 }
@@ -132,6 +158,7 @@ impl Timeline {
             head.duration.0,
             head.depth.0,
             head.first_number.0,
+            head.update.0,
             first_tick.0,
         ))?;
         Ok(Timeline { record, table })
@@ -196,8 +223,8 @@ impl Timeline {
     }
 
     /// Raises the greatest clock to this one, if it is later, and drops every reference that is
-    /// needed neither at it nor at any later millisecond. An earlier clock changes nothing.
-    /// Refusal [`ClockLimit`](Refusal::ClockLimit).
+    /// needed neither at it nor at any later millisecond. An earlier clock changes nothing. The
+    /// update period plays no part in it. Refusal [`ClockLimit`](Refusal::ClockLimit).
     ///
     /// ```
     /// # use flonterri::{Head, Millis, Span, Tick, Timeline, Timescale};
@@ -246,8 +273,9 @@ impl Timeline {
     /// The verdict at a clock. Refusals [`ClockLimit`](Refusal::ClockLimit),
     /// [`EarlierClock`](Refusal::EarlierClock).
     ///
-    /// The window ends at the clock, so ask as far back as segments are late, and trim by the
-    /// same clock:
+    /// The window ends at the clock plus the update period of the [`Head`], or with the period if
+    /// that is earlier. So ask as far back as segments are late, and an update period more, and trim
+    /// by the same clock:
     ///
     /// ```
     /// # use flonterri::{Head, Millis, Span, Tick, Timeline, Timescale};
@@ -334,10 +362,10 @@ impl Timeline {
         Refusal::judge(answer).map(|()| out == [1])
     }
 
-    /// The covered edge: the greatest clock at which the window's upper edge is at or before the
-    /// next tick. None where clock 0 already passes it; [`Millis::LARGEST`] where the next tick
-    /// reaches a known period end. At every later clock whose window is not empty the verdict is
-    /// never complete.
+    /// The covered edge: the greatest clock at which the window's upper edge, which lies the update
+    /// period past the clock, is at or before the next tick. None where clock 0 already passes it;
+    /// [`Millis::LARGEST`] where the next tick reaches a known period end. At every later clock whose
+    /// window is not empty the verdict is never complete.
     ///
     /// It knows nothing of the window's lower edge, so the verdict at it may be lacking. It may lie
     /// before the greatest clock, where a verdict is refused. And it stands still where a packager
@@ -441,19 +469,24 @@ impl Timeline {
     /// Reads a file into a timeline with room for so many runs. Refused with the first refused
     /// line, or [`NoMemory`](OpenError::NoMemory) for so many runs.
     ///
+    /// A head of kind 01, as it was written before there was an update period, is read with 0:
+    ///
     /// ```
     /// use flonterri::{Number, Tick, Timeline};
     ///
     /// # fn main() -> Result<(), flonterri::ReadError> {
-    /// let file = b"\
-    /// 01000003e8000000000000000000000000000000000000000000000000000000000000271000000003
+    /// let file = "\
+    /// 05000003e80000000000000000000000000000000000000000000000000000000000002710000000030000000000000000
     /// 020000000000001f4000000fa000000002
     /// 0300000001
     /// ";
-    /// let timeline = Timeline::read(file, 10)?;
+    /// let timeline = Timeline::read(file.as_bytes(), 10)?;
     /// assert_eq!(timeline.next_tick(), Tick(20_000));
     /// assert_eq!(timeline.first_kept_number(), Number(3));
-    /// assert_eq!(timeline.write().unwrap(), file);
+    /// assert_eq!(timeline.write().unwrap(), file.as_bytes());
+    ///
+    /// let older = file.replace("0000000000000000\n", "\n").replacen("05", "01", 1);
+    /// assert_eq!(Timeline::read(older.as_bytes(), 10)?, timeline);
     /// # Ok(())
     /// # }
     /// ```
@@ -469,7 +502,8 @@ impl Timeline {
 
     /// The file of what is kept. Refusal [`NothingKept`](Refusal::NothingKept).
     ///
-    /// A file keeps no greatest clock: who reads it back trims at the last clock first.
+    /// Its head is of kind 05, with the update period. A file keeps no greatest clock: who reads it
+    /// back trims at the last clock first.
     ///
     /// ```
     /// # use flonterri::{Head, Millis, Span, Tick, Timeline, Timescale};
@@ -538,6 +572,7 @@ impl Timeline {
             duration: Millis(self.record[word::DURATION]),
             depth: Millis(self.record[word::DEPTH]),
             first_number: Number(narrow(self.record[word::FIRST_NUMBER], u32::MAX)),
+            update: Millis(self.record[word::UPDATE_PERIOD]),
         }
     }
 

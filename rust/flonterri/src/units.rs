@@ -30,7 +30,7 @@ pub struct Stamp(pub u32);
 #[derive(Clone, Copy, Debug, PartialEq, Eq, PartialOrd, Ord, Hash)]
 pub struct Span(pub u32);
 
-/// Whole milliseconds: period start, duration, window depth and clock. At most
+/// Whole milliseconds: period start, duration, window depth, update period and clock. At most
 /// [`Millis::LARGEST`].
 #[derive(Clone, Copy, Debug, Default, PartialEq, Eq, PartialOrd, Ord, Hash)]
 pub struct Millis(pub u64);

@@ -9,12 +9,12 @@
 //! [`run_word`] tells. Words of any value and slices of any length are taken: what cannot be a
 //! timeline is refused.
 //!
-//! Before all else a record that is not of 11 words is 2, and then an `out` that is not of its
+//! Before all else a record that is not of 12 words is 2, and then an `out` that is not of its
 //! length is 15; both leave all memory as it came. What a call changes where it is refused with
 //! another number stands beside it.
 
 /// Words of a record.
-pub const RECORD_WORDS: usize = 11;
+pub const RECORD_WORDS: usize = 12;
 
 /// Words of a run in the table.
 pub const RUN_WORDS: usize = 3;
@@ -57,16 +57,18 @@ pub mod word {
     pub const DEPTH: usize = 4;
     /// The number of the first reference.
     pub const FIRST_NUMBER: usize = 5;
+    /// Update period, in milliseconds: how far past the clock the window reaches.
+    pub const UPDATE_PERIOD: usize = 6;
     /// How many references were accepted.
-    pub const ACCEPTED: usize = 6;
+    pub const ACCEPTED: usize = 7;
     /// How many of them were dropped.
-    pub const DROPPED: usize = 7;
+    pub const DROPPED: usize = 8;
     /// Where the next reference must start.
-    pub const NEXT_TICK: usize = 8;
+    pub const NEXT_TICK: usize = 9;
     /// The greatest clock of all trims.
-    pub const GREATEST_CLOCK: usize = 9;
+    pub const GREATEST_CLOCK: usize = 10;
     /// How many runs of the table are used.
-    pub const RUNS_USED: usize = 10;
+    pub const RUNS_USED: usize = 11;
 }
 
 /// Where each word of a run stands, counted from its first.
@@ -162,7 +164,7 @@ pub mod full_tick_kind {
 }
 
 /// True where record and table agree, so that they are a timeline; false also where the record is
-/// not of 11 words.
+/// not of 12 words.
 ///
 /// The archive has no function for this alone. Asked for the runs that touch tick 0, it refuses
 /// for disagreement and for nothing else.
@@ -172,7 +174,7 @@ pub mod full_tick_kind {
 ///
 /// let (mut record, mut table) = ([0; RECORD_WORDS], [0; 30]);
 /// assert!(!words::agree(&record, &table));
-/// assert_eq!(words::open(&mut record, &mut table, 1000, 0, 0, 0, 0, 1, 0), 0);
+/// assert_eq!(words::open(&mut record, &mut table, 1000, 0, 0, 0, 0, 1, 0, 0), 0);
 /// assert!(words::agree(&record, &table));
 /// record[word::RUNS_USED] = 1;
 /// assert!(!words::agree(&record, &table));
@@ -221,7 +223,7 @@ macro_rules! calls {
 
 calls! {
     /// Opens a timeline: writes the record and zeroes the table. It takes any words for both, since it
-    /// reads none.
+    /// reads none. `update` is the update period.
     ///
     /// Refusal 1, which zeroes the record and leaves the table as it came; and 2 for the record's
     /// length alone, which leaves both as they came.
@@ -230,9 +232,9 @@ calls! {
     /// use flonterri::words::{self, RECORD_WORDS};
     ///
     /// let (mut record, mut table) = ([7; RECORD_WORDS], [7; 30]);
-    /// assert_eq!(words::open(&mut record, &mut table, 0, 0, 0, 0, 0, 1, 0), 1);
+    /// assert_eq!(words::open(&mut record, &mut table, 0, 0, 0, 0, 0, 1, 0, 0), 1);
     /// assert_eq!((record, table), ([0; RECORD_WORDS], [7; 30]));
-    /// assert_eq!(words::open(&mut record, &mut table, 1000, 0, 0, 0, 0, 1, 0), 0);
+    /// assert_eq!(words::open(&mut record, &mut table, 1000, 0, 0, 0, 0, 1, 0, 0), 0);
     /// assert_eq!(table, [0; 30]);
     /// ```
     fn open = flonterri_open(
@@ -244,6 +246,7 @@ calls! {
         duration: u64,
         depth: u64,
         first_number: u32,
+        update: u64,
         first_tick: u64,
     );
 
@@ -255,7 +258,7 @@ calls! {
     /// use flonterri::words::{self, RECORD_WORDS};
     ///
     /// let (mut record, mut table) = ([0; RECORD_WORDS], [0; 30]);
-    /// assert_eq!(words::open(&mut record, &mut table, 1000, 0, 0, 0, 10_000, 1, 0), 0);
+    /// assert_eq!(words::open(&mut record, &mut table, 1000, 0, 0, 0, 10_000, 1, 0, 0), 0);
     /// assert_eq!(words::append(&mut record, &mut table, 0, 4000, 5), 0);
     /// assert_eq!(table[..3], [0, 4000, 5]);
     /// assert_eq!(words::append(&mut record, &mut table, 24_000, 4000, 1), 4);
@@ -277,7 +280,7 @@ calls! {
     ///
     /// let (mut record, mut table) = ([0; RECORD_WORDS], [0; 30]);
     /// let first_tick = 4_294_970_000;
-    /// assert_eq!(words::open(&mut record, &mut table, 1000, 0, 0, 0, 0, 1, first_tick), 0);
+    /// assert_eq!(words::open(&mut record, &mut table, 1000, 0, 0, 0, 0, 1, 0, first_tick), 0);
     /// assert_eq!(words::append_stamp(&mut record, &mut table, 2703, 1, 1), 5);
     /// assert_eq!(words::append_stamp(&mut record, &mut table, 2704, 1, 1), 0);
     /// ```
@@ -297,15 +300,15 @@ calls! {
     /// use flonterri::words::{self, RECORD_WORDS};
     ///
     /// let (mut record, mut table) = ([0; RECORD_WORDS], [0; 30]);
-    /// assert_eq!(words::open(&mut record, &mut table, 1000, 0, 0, 0, 10_000, 1, 0), 0);
+    /// assert_eq!(words::open(&mut record, &mut table, 1000, 0, 0, 0, 10_000, 1, 0, 0), 0);
     /// assert_eq!(words::append(&mut record, &mut table, 0, 4000, 5), 0);
     /// assert_eq!(words::trim(&mut record, &mut table, 18_000), 0);
     /// assert_eq!(table[..3], [8000, 4000, 3]);
     /// ```
     fn trim = flonterri_trim(record: &mut [u64], table: &mut [u64], clock: u64,);
 
-    /// The verdict at a clock. `out` is [`VERDICT_WORDS`] words, in the order that [`verdict_word`]
-    /// tells.
+    /// The verdict at a clock, over the window that ends at the clock plus the update period. `out` is
+    /// [`VERDICT_WORDS`] words, in the order that [`verdict_word`] tells.
     ///
     /// Refusals 2, 10, 11, in this order, and 15 for the length of `out`; each leaves `out` as it came.
     ///
@@ -313,7 +316,7 @@ calls! {
     /// use flonterri::words::{self, RECORD_WORDS};
     ///
     /// let (mut record, mut table) = ([0; RECORD_WORDS], [0; 30]);
-    /// assert_eq!(words::open(&mut record, &mut table, 1000, 0, 0, 0, 10_000, 1, 0), 0);
+    /// assert_eq!(words::open(&mut record, &mut table, 1000, 0, 0, 0, 10_000, 1, 0, 0), 0);
     /// assert_eq!(words::append(&mut record, &mut table, 0, 4000, 5), 0);
     /// let mut out = [0; words::VERDICT_WORDS];
     /// assert_eq!(words::verdict(&record, &table, 20_001, &mut out), 0);
@@ -329,7 +332,7 @@ calls! {
     /// use flonterri::words::{self, RECORD_WORDS};
     ///
     /// let (mut record, mut table) = ([0; RECORD_WORDS], [0; 30]);
-    /// assert_eq!(words::open(&mut record, &mut table, 3, 0, 0, 500, 0, 0, 0), 0);
+    /// assert_eq!(words::open(&mut record, &mut table, 3, 0, 0, 500, 0, 0, 0, 0), 0);
     /// let mut out = [0; words::VERDICT_WORDS];
     /// assert_eq!(words::verdict_whole(&record, &table, &mut out), 0);
     /// assert_eq!(out, [words::verdict_kind::LACKING, 2, 0, 0, 0]);
@@ -346,7 +349,7 @@ calls! {
     /// use flonterri::words::{self, RECORD_WORDS};
     ///
     /// let (mut record, mut table) = ([0; RECORD_WORDS], [0; 30]);
-    /// assert_eq!(words::open(&mut record, &mut table, 1000, 0, 0, 0, 10_000, 1, 0), 0);
+    /// assert_eq!(words::open(&mut record, &mut table, 1000, 0, 0, 0, 10_000, 1, 0, 0), 0);
     /// assert_eq!(words::append(&mut record, &mut table, 0, 4000, 5), 0);
     /// let mut out = [0; words::AVAILABILITY_WORDS];
     /// assert_eq!(words::availability(&record, &table, 3, &mut out), 0);
@@ -369,7 +372,7 @@ calls! {
     /// use flonterri::words::{self, RECORD_WORDS};
     ///
     /// let (mut record, mut table) = ([0; RECORD_WORDS], [0; 30]);
-    /// assert_eq!(words::open(&mut record, &mut table, 1000, 0, 0, 0, 10_000, 1, 0), 0);
+    /// assert_eq!(words::open(&mut record, &mut table, 1000, 0, 0, 0, 10_000, 1, 0, 0), 0);
     /// assert_eq!(words::append(&mut record, &mut table, 0, 4000, 5), 0);
     /// let mut out = [0; words::TOUCHING_WORDS];
     /// assert_eq!(words::touching(&record, &table, 19_999, 30_000, &mut out), 0);
@@ -392,7 +395,7 @@ calls! {
     /// use flonterri::words::{self, RECORD_WORDS};
     ///
     /// let (mut record, mut table) = ([0; RECORD_WORDS], [0; 30]);
-    /// assert_eq!(words::open(&mut record, &mut table, 1000, 0, 0, 0, 10_000, 1, 0), 0);
+    /// assert_eq!(words::open(&mut record, &mut table, 1000, 0, 0, 0, 10_000, 1, 0, 0), 0);
     /// assert_eq!(words::append(&mut record, &mut table, 0, 4000, 5), 0);
     /// let mut out = [0; words::EDGE_WORDS];
     /// assert_eq!(words::covered_edge(&record, &table, &mut out), 0);
@@ -409,7 +412,7 @@ calls! {
     /// use flonterri::words::{self, RECORD_WORDS};
     ///
     /// let (mut record, mut table) = ([0; RECORD_WORDS], [0; 30]);
-    /// assert_eq!(words::open(&mut record, &mut table, 1000, 0, 0, 0, 10_000, 1, 0), 0);
+    /// assert_eq!(words::open(&mut record, &mut table, 1000, 0, 0, 0, 10_000, 1, 0, 0), 0);
     /// assert_eq!(words::append(&mut record, &mut table, 0, 4000, 5), 0);
     /// let mut out = [7; words::AVAILABLE_WORDS];
     /// assert_eq!(words::available_at(&record, &table, 3, 11_999, &mut out), 0);
@@ -436,7 +439,7 @@ calls! {
     ///
     /// let (mut record, mut table) = ([0; RECORD_WORDS], [0; 30]);
     /// let first_tick = 4_294_970_000;
-    /// assert_eq!(words::open(&mut record, &mut table, 1000, 0, 0, 0, 0, 1, first_tick), 0);
+    /// assert_eq!(words::open(&mut record, &mut table, 1000, 0, 0, 0, 0, 1, 0, first_tick), 0);
     /// let mut out = [0; words::FULL_TICK_WORDS];
     /// assert_eq!(words::full_tick(&record, &table, 2705, &mut out), 0);
     /// assert_eq!(out, [words::full_tick_kind::AT, first_tick + 1]);
@@ -448,8 +451,9 @@ calls! {
         out: &mut [u64],
     );
 
-    /// Reads a file into record and table, which may hold any words before. `out` is 1 word: the
-    /// refused line, counted from 1, or 0 where the file is accepted.
+    /// Reads a file into record and table, which may hold any words before. A head of kind 01 has no
+    /// update period, and is read with 0. `out` is 1 word: the refused line, counted from 1, or 0 where
+    /// the file is accepted.
     ///
     /// Refusals 1, 3 to 9, 16, 17, 18 by a line: the first refused line decides, and on a line 16 comes
     /// first, then 17, then its fields. Each zeroes record and table and puts the line into `out`. And
@@ -469,8 +473,8 @@ calls! {
         out: &mut [u64],
     );
 
-    /// Writes the file into the front of an output; the bytes behind it stay as they came. `out` is 1
-    /// word: the length.
+    /// Writes the file into the front of an output; the bytes behind it stay as they came. Its head is
+    /// of kind 05, also where the update period is 0. `out` is 1 word: the length.
     ///
     /// Refusals 2, 12, 15, in this order: 15 for bytes that are fewer than the file's, and before all
     /// but the record's length for that of `out`. Each leaves the bytes and `out` as they came.
@@ -479,12 +483,12 @@ calls! {
     /// use flonterri::words::{self, RECORD_WORDS};
     ///
     /// let (mut record, mut table) = ([0; RECORD_WORDS], [0; 30]);
-    /// assert_eq!(words::open(&mut record, &mut table, 1000, 0, 0, 0, 10_000, 1, 0), 0);
+    /// assert_eq!(words::open(&mut record, &mut table, 1000, 0, 0, 0, 10_000, 1, 0, 0), 0);
     /// assert_eq!(words::append(&mut record, &mut table, 0, 4000, 5), 0);
     /// let (mut bytes, mut out) = ([0; 200], [0]);
     /// assert_eq!(words::write(&record, &table, &mut bytes, &mut out), 0);
-    /// assert_eq!(out, [83 + 35 + 11]);
-    /// assert_eq!(bytes[..10], *b"01000003e8");
+    /// assert_eq!(out, [99 + 35 + 11]);
+    /// assert_eq!(bytes[..10], *b"05000003e8");
     /// ```
     fn write = flonterri_write(record: &[u64], table: &[u64], bytes: &mut [u8], out: &mut [u64],);
 }

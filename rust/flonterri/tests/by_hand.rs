@@ -9,10 +9,16 @@ use flonterri::{
 type Outcome = Result<(), OpenError>;
 
 const WORKED_FILE: &str = "\
-01000003e8000000000000000000000000000000000000000000000000000000000000271000000003
+05000003e80000000000000000000000000000000000000000000000000000000000002710000000030000000000000000
 020000000000001f4000000fa000000002
 0300000001
 ";
+
+/// The same file as it was written before there was an update period.
+fn old_worked_file() -> String {
+    let without_update = WORKED_FILE.replace("0000000000000000\n", "\n");
+    without_update.replacen("05", "01", 1)
+}
 
 fn case_a() -> Result<Timeline, OpenError> {
     let head = Head {
@@ -29,13 +35,20 @@ fn case_a() -> Result<Timeline, OpenError> {
 }
 
 fn case_b() -> Result<Timeline, OpenError> {
+    case_b_with_update(0)
+}
+
+/// Case B with an update period.
+fn case_b_with_update(millis: u64) -> Result<Timeline, OpenError> {
     let head = Head {
         depth: Millis(10_000),
         first_number: Number(1),
+        update: Millis(millis),
         ..Head::new(Timescale(1000))
     };
     let mut timeline = Timeline::open(head, Tick(0), 10)?;
     timeline.append(Tick(0), Span(4000), 5)?;
+    assert_eq!(timeline.head(), head);
     Ok(timeline)
 }
 
@@ -107,9 +120,14 @@ fn a_runs_that_touch() -> Outcome {
     Ok(())
 }
 
+/// An update period moves no trim.
 #[test]
 fn b_trims() -> Outcome {
-    let mut timeline = case_b()?;
+    trims_of_case_b(case_b()?)?;
+    trims_of_case_b(case_b_with_update(2000)?)
+}
+
+fn trims_of_case_b(mut timeline: Timeline) -> Outcome {
     for (clock, dropped) in [(13_999, 0), (14_000, 1), (14_001, 1), (18_000, 2), (1, 2)] {
         timeline.trim(Millis(clock))?;
         assert_eq!(timeline.dropped(), dropped);
@@ -161,9 +179,9 @@ fn b_the_worked_file() -> Outcome {
     timeline.trim(Millis(18_000))?;
     assert_eq!(timeline.write()?, WORKED_FILE.as_bytes());
 
-    let mut output = [b'#'; 140];
+    let mut output = [b'#'; 150];
     let length = timeline.write_into(&mut output)?;
-    assert_eq!(length, WORKED_FILE.len());
+    assert_eq!((length, WORKED_FILE.len()), (145, 145));
     assert_eq!(&output[..length], WORKED_FILE.as_bytes());
     assert!(output[length..].iter().all(|byte| *byte == b'#'));
     assert_eq!(
@@ -171,10 +189,56 @@ fn b_the_worked_file() -> Outcome {
         Err(Refusal::ShortOutput)
     );
 
-    let again = Timeline::read(WORKED_FILE.as_bytes(), 10).expect("an accepted file");
-    assert_eq!(again.table_words(), timeline.table_words());
-    assert_eq!(again.first_kept_number(), timeline.first_kept_number());
-    assert_eq!(again.next_tick(), timeline.next_tick());
+    for file in [WORKED_FILE, &old_worked_file()] {
+        let again = Timeline::read(file.as_bytes(), 10).expect("an accepted file");
+        assert_eq!(again.table_words(), timeline.table_words());
+        assert_eq!(again.first_kept_number(), timeline.first_kept_number());
+        assert_eq!(again.next_tick(), timeline.next_tick());
+        assert_eq!(again.head().update, Millis(0));
+        assert_eq!(again.write()?, WORKED_FILE.as_bytes());
+    }
+    Ok(())
+}
+
+/// With an update period of two seconds the window reaches so far past the clock.
+#[test]
+fn b_with_an_update_period() -> Outcome {
+    let mut timeline = case_b_with_update(2000)?;
+    for (clock, line) in [
+        (0, "complete 2000/2000 100%"),
+        (14_000, "complete 12000/12000 100%"),
+        (18_000, "complete 12000/12000 100%"),
+        (18_001, "lacking 20000 11999/12000 99%"),
+    ] {
+        assert_eq!(timeline.verdict(Millis(clock))?.to_string(), line);
+    }
+    assert_eq!(timeline.covered_edge(), Some(Millis(18_000)));
+    let available = timeline.availability(Number(3))?;
+    assert_eq!(available.start, Grain(12_000_000));
+    assert_eq!(available.end, Some(Grain(26_000_000)));
+
+    timeline.trim(Millis(18_000))?;
+    assert!(timeline.verdict(Millis(18_000))?.is_complete());
+    assert_eq!(timeline.verdict(Millis(17_999)), Err(Refusal::EarlierClock));
+    let file = WORKED_FILE.replace("0000000000000000\n", "00000000000007d0\n");
+    assert_eq!(timeline.write()?, file.as_bytes());
+    Ok(())
+}
+
+/// A period start that the clock has not reached, and the update period has.
+#[test]
+fn a_window_that_opens_before_the_period_start() -> Outcome {
+    let head = Head {
+        start: Millis(10),
+        update: Millis(15),
+        ..Head::new(Timescale(1000))
+    };
+    let mut timeline = Timeline::open(head, Tick(0), 10)?;
+    let lacking = timeline.verdict(Millis(0))?;
+    assert_eq!(lacking.to_string(), "lacking 0 0/5 0%");
+    timeline.append(Tick(0), Span(5), 1)?;
+    let complete = timeline.verdict(Millis(0))?;
+    assert_eq!(complete, Verdict::Complete { needed: 5 });
     Ok(())
 }
 
@@ -249,6 +313,16 @@ fn an_opening_over_its_limit() {
         Timeline::open(Head::new(Timescale(1)), Tick(Tick::LARGEST.0 + 1), 10),
         Err(OpenError::Refused(Refusal::OverLimit))
     );
+    for update in [Millis::LARGEST.0 + 1, u64::MAX] {
+        let head = Head {
+            update: Millis(update),
+            ..Head::new(Timescale(1))
+        };
+        assert_eq!(
+            Timeline::open(head, Tick(0), 10),
+            Err(OpenError::Refused(Refusal::OverLimit))
+        );
+    }
 }
 
 #[test]
@@ -309,6 +383,8 @@ fn words_kept_elsewhere() -> Outcome {
     for (at, damage) in [
         (word::TIMESCALE, 1000 + (1 << 32)),
         (word::FIRST_NUMBER, 1 + (1 << 32)),
+        (word::UPDATE_PERIOD, Millis::LARGEST.0 + 1),
+        (word::UPDATE_PERIOD, u64::MAX),
         (word::DROPPED, u64::MAX),
         (word::NEXT_TICK, 1 << 52),
         (word::RUNS_USED, 1 + (1 << 32)),
@@ -329,7 +405,7 @@ fn words_kept_elsewhere() -> Outcome {
 
     let nothing = Timeline::of_words([0; RECORD_WORDS], Vec::new());
     assert_eq!(nothing, Err(Refusal::Disagreement));
-    assert!(!words::agree(&record[..10], timeline.table_words()));
+    assert!(!words::agree(&record[..11], timeline.table_words()));
     Ok(())
 }
 
@@ -342,6 +418,7 @@ fn the_widest_words() -> Outcome {
         duration: Millis::LARGEST,
         depth: Millis::LARGEST,
         first_number: Number(u32::MAX - 2),
+        update: Millis::LARGEST,
         timescale: Timescale::LARGEST,
     };
     let duration = Span(u32::MAX);
@@ -424,10 +501,10 @@ fn words_that_a_refusal_leaves() {
     let (came, table_came) = ([9; RECORD_WORDS], [9; 3]);
 
     let (mut record, mut table) = (came, table_came);
-    let number = words::open(&mut record, &mut table, 0, 0, 0, 0, 0, 0, 0);
+    let number = words::open(&mut record, &mut table, 0, 0, 0, 0, 0, 0, 0, 0);
     assert_eq!((number, record, table), (1, [0; RECORD_WORDS], table_came));
     let (mut record, mut table) = (came, table_came);
-    let number = words::open(&mut record[1..], &mut table, 1, 0, 0, 0, 0, 0, 0);
+    let number = words::open(&mut record[1..], &mut table, 1, 0, 0, 0, 0, 0, 0, 0);
     assert_eq!((number, record, table), (2, came, table_came));
 
     let (mut record, mut table, mut out) = (came, table_came, [9]);

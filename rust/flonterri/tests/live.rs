@@ -20,8 +20,8 @@ fn ten_seconds() -> Head {
 
 /// The verdicts of ten minutes, one a second, each so many milliseconds before now. Segments last 4 s
 /// and come 700 ms after their end.
-fn ten_minutes(back: u64) -> Result<Vec<Verdict>, OpenError> {
-    let mut timeline = Timeline::open(ten_seconds(), Tick(0), 10)?;
+fn ten_minutes(head: Head, back: u64) -> Result<Vec<Verdict>, OpenError> {
+    let mut timeline = Timeline::open(head, Tick(0), 10)?;
     let mut verdicts = Vec::new();
     for now in (0..600_000).step_by(1000) {
         while timeline.next_tick().0 + 4000 + 700 <= now {
@@ -36,16 +36,35 @@ fn ten_minutes(back: u64) -> Result<Vec<Verdict>, OpenError> {
 
 #[test]
 fn asked_at_now_nothing_is_ever_complete() -> Outcome {
-    assert!(!ten_minutes(0)?.iter().any(|verdict| verdict.is_complete()));
+    let verdicts = ten_minutes(ten_seconds(), 0)?;
+    assert!(!verdicts.iter().any(|verdict| verdict.is_complete()));
     Ok(())
 }
 
 #[test]
 fn asked_as_late_as_segments_come_all_is_complete() -> Outcome {
-    let verdicts = ten_minutes(4700)?;
+    let verdicts = ten_minutes(ten_seconds(), 4700)?;
     let empty = |verdict: &&Verdict| **verdict == Verdict::NothingNeeded;
     assert_eq!(verdicts.iter().take_while(empty).count(), 5);
     assert!(verdicts[5..].iter().all(|verdict| verdict.is_complete()));
+    Ok(())
+}
+
+/// What is complete up to the clock is not, with an update period, until that much more has come.
+#[test]
+fn with_an_update_period_it_is_asked_so_much_earlier() -> Outcome {
+    let head = Head {
+        update: Millis(2000),
+        ..ten_seconds()
+    };
+    let complete = |back| -> Result<usize, OpenError> {
+        let verdicts = ten_minutes(head, back)?;
+        let late = &verdicts[10..];
+        Ok(late.iter().filter(|verdict| verdict.is_complete()).count())
+    };
+    assert_eq!(complete(4700 + 2000)?, 590);
+    // Segments are 4 s long: two seconds of each four the update period is not all there.
+    assert_eq!(complete(4700)?, 295);
     Ok(())
 }
 
@@ -67,6 +86,22 @@ fn the_covered_edge() -> Outcome {
         ..ten_seconds()
     };
     assert_eq!(Timeline::open(offset, Tick(0), 10)?.covered_edge(), None);
+    Ok(())
+}
+
+/// An update period takes so much off the edge.
+#[test]
+fn the_covered_edge_with_an_update_period() -> Outcome {
+    let head = Head {
+        update: Millis(2000),
+        ..ten_seconds()
+    };
+    let mut timeline = Timeline::open(head, Tick(0), 10)?;
+    assert_eq!(timeline.covered_edge(), None);
+    timeline.append(Tick(0), Span(4000), 5)?;
+    assert_eq!(timeline.covered_edge(), Some(Millis(18_000)));
+    assert!(timeline.verdict(Millis(18_000))?.is_complete());
+    assert!(!timeline.verdict(Millis(18_001))?.is_complete());
     Ok(())
 }
 
@@ -164,7 +199,7 @@ fn words_of_edge_full_tick_and_available() {
     assert_eq!(words::covered_edge(&record, &table, &mut out[..2]), 2);
     assert_eq!(words::full_tick(&record, &table, 0, &mut out[..2]), 2);
     assert_eq!(words::available_at(&record, &table, 0, 0, &mut out[..1]), 2);
-    words::open(&mut record, &mut table, 1000, 0, 0, 0, 0, 0, 0);
+    words::open(&mut record, &mut table, 1000, 0, 0, 0, 0, 0, 0, 0);
     assert_eq!(words::covered_edge(&record, &table, &mut out), 15);
     assert_eq!(words::full_tick(&record, &table, 0, &mut out), 15);
     assert_eq!(words::available_at(&record, &table, 0, 0, &mut out), 15);
@@ -298,7 +333,7 @@ fn a_grown_table_holds_the_same() -> Outcome {
 fn a_table_of_odd_length_grows() -> Outcome {
     for odd in [1, 2] {
         let (mut record, mut table) = ([0; RECORD_WORDS], vec![0; odd]);
-        let opened = words::open(&mut record, &mut table, 1000, 0, 0, 0, 0, 1, 0);
+        let opened = words::open(&mut record, &mut table, 1000, 0, 0, 0, 0, 1, 0, 0);
         assert_eq!(opened, 0);
         let mut timeline = Timeline::of_words(record, table)?;
         timeline.grow(0)?;

@@ -22,7 +22,7 @@ type Words = ([u64; RECORD_WORDS], [u64; 30]);
 /// A millisecond a tick, no period end, a window one millisecond deep.
 fn opened() -> Words {
     let (mut record, mut table) = ([0; RECORD_WORDS], [0; 30]);
-    let number = words::open(&mut record, &mut table, 1000, 0, 0, 0, 1, 0, 0);
+    let number = words::open(&mut record, &mut table, 1000, 0, 0, 0, 1, 0, 0, 0);
     assert_eq!(number, 0);
     (record, table)
 }
@@ -111,7 +111,7 @@ fn calls_that_look() {
 fn the_whole_period() {
     let (mut record, mut table) = ([0; RECORD_WORDS], [0; 30]);
     let last = u64::from(MOST);
-    let number = words::open(&mut record, &mut table, 1000, 0, 0, last, 0, 0, 0);
+    let number = words::open(&mut record, &mut table, 1000, 0, 0, last, 0, 0, 0, 0);
     assert_eq!(number, 0);
     assert_eq!(words::append(&mut record, &mut table, 0, 1, MOST), 0);
     let mut verdict = [0; VERDICT_WORDS];
@@ -130,9 +130,9 @@ fn a_file() {
         soon(|| words::write(&record, &table, &mut bytes, &mut length)),
         0
     );
-    assert_eq!(length, [129]);
+    assert_eq!(length, [145]);
     let (mut read, mut words_read, mut line) = ([7; RECORD_WORDS], [7; 30], [7]);
-    let mut reading = || words::read(&bytes[..129], &mut read, &mut words_read, &mut line);
+    let mut reading = || words::read(&bytes[..145], &mut read, &mut words_read, &mut line);
     assert_eq!(soon(&mut reading), 0);
     assert_eq!((read, words_read, line), (record, table, [0]));
 }

@@ -9,9 +9,12 @@ use std::io::{self, Read};
 use plain::face;
 use plain::record::{self, RECORD_WORDS};
 
+/// As many numbers as the longest call has, an opening.
+type Numbers = [u64; 8];
+
 /// The numbers behind the name of a call; those that it does not have are 0.
-fn numbers(step: &str) -> [u64; 7] {
-    let mut numbers = [0; 7];
+fn numbers(step: &str) -> Numbers {
+    let mut numbers = Numbers::default();
     for (place, number) in numbers.iter_mut().zip(step.split(' ').skip(1)) {
         *place = number.parse().expect("a number of 64 bits");
     }
@@ -19,10 +22,10 @@ fn numbers(step: &str) -> [u64; 7] {
 }
 
 /// The number of a call that changes, or nothing for one that looks.
-fn change(name: &str, record: &mut [u64], table: &mut [u64], numbers: [u64; 7]) -> Option<u32> {
-    let [a, b, c, d, e, f, g] = numbers;
+fn change(name: &str, record: &mut [u64], table: &mut [u64], numbers: Numbers) -> Option<u32> {
+    let [a, b, c, d, e, f, g, h] = numbers;
     let number = match name {
-        "open" => face::open(record, table, a as u32, b, c, d, e, f as u32, g),
+        "open" => face::open(record, table, a as u32, b, c, d, e, f as u32, g, h),
         "append" => face::append(record, table, a, b as u32, c as u32),
         "stamp" => face::append_stamp(record, table, a as u32, b as u32, c as u32),
         "trim" => face::trim(record, table, a),
@@ -48,7 +51,7 @@ fn availability(record: &[u64], table: &[u64], number: u64) -> String {
 }
 
 /// The row of a call that looks.
-fn look(name: &str, record: &[u64], table: &[u64], numbers: [u64; 7]) -> String {
+fn look(name: &str, record: &[u64], table: &[u64], numbers: Numbers) -> String {
     let [a, b, ..] = numbers;
     let mut out = [0u64; 5];
     match name {

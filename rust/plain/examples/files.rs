@@ -24,7 +24,7 @@ fn case_b() {
     let mut record = [0; RECORD_WORDS];
     let mut table = [0; WORDS];
     assert_eq!(
-        face::open(&mut record, &mut table, 1000, 0, 0, 0, 10_000, 1, 0),
+        face::open(&mut record, &mut table, 1000, 0, 0, 0, 10_000, 1, 0, 0),
         0
     );
     assert_eq!(face::append(&mut record, &mut table, 0, 4000, 5), 0);
@@ -40,7 +40,7 @@ fn judge(name: &str, bytes: &[u8]) {
     let answer = match face::read(bytes, &mut record, &mut table, &mut line) {
         0 => format!(
             "accepted {} dropped {} next {} runs {}",
-            record[6], record[7], record[8], record[10]
+            record[7], record[8], record[9], record[11]
         ),
         number => format!("refused {} line {}", number, line[0]),
     };

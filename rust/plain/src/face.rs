@@ -1,9 +1,9 @@
 //! The whole paper over words and numbers, one function a call.
 //!
-//! Each function answers the paper's refusal number, 0 where accepted. A record is 11 words:
-//! timescale, offset, start, duration, depth, first number, accepted, dropped, next tick,
-//! greatest clock, runs used. A record of another length is 2; then an `out` of another length
-//! than the function's is 15; both leave all memory as it came.
+//! Each function answers the paper's refusal number, 0 where accepted. A record is 12 words:
+//! timescale, offset, start, duration, depth, first number, update period, accepted, dropped, next
+//! tick, greatest clock, runs used. A record of another length is 2; then an `out` of another
+//! length than the function's is 15; both leave all memory as it came.
 //!
 //! On another refusal `out` stays as it came, but for the line of a refused reading. Opening
 //! refused: record zeroed, table as it came. Reading refused: record and table zeroed. Any other
@@ -45,6 +45,7 @@ pub fn open(
     duration: u64,
     depth: u64,
     first_number: u32,
+    update: u64,
     first_tick: u64,
 ) -> u32 {
     if record.len() != RECORD_WORDS {
@@ -57,6 +58,7 @@ pub fn open(
         duration,
         depth,
         first_number,
+        update,
     };
     match Timeline::open(fields, first_tick, capacity(table.len())) {
         Ok(timeline) => {

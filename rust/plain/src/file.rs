@@ -5,14 +5,19 @@ use crate::timeline::Timeline;
 use crate::units::Tick;
 use crate::window::{Head, HeadFields};
 
-/// Kind of the head line.
-const KIND_HEAD: u8 = 0x01;
+/// Kind of a head line without an update period: it is read, and never written.
+const KIND_OLD_HEAD: u8 = 0x01;
 /// Kind of an S line.
 const KIND_S: u8 = 0x02;
 /// Kind of the end line.
 const KIND_END: u8 = 0x03;
 /// Kind of the program's clock line; in a file it is unknown.
 const KIND_CLOCK: u8 = 0x04;
+/// Kind of a head line.
+const KIND_HEAD: u8 = 0x05;
+
+/// Bytes of the update period, which stands last in a head line.
+const UPDATE_BYTES: usize = 8;
 
 /// All ones in a field of 8 bytes: t absent, or the whole period on a clock line.
 const ALL_ONES: u64 = u64::MAX;
@@ -143,6 +148,7 @@ fn split_line(bytes: &[u8]) -> Result<(&[u8], &[u8]), Refusal> {
 fn frame_of(text: &[u8]) -> Result<Frame, Refusal> {
     let (kind, content) = kind_and_content(text)?;
     match kind {
+        KIND_OLD_HEAD => old_head_of(&content),
         KIND_HEAD => head_of(&content),
         KIND_S => s_of(&content),
         KIND_END => end_of(&content),
@@ -150,9 +156,14 @@ fn frame_of(text: &[u8]) -> Result<Frame, Refusal> {
     }
 }
 
+/// The old kind lacks the update period and nothing else; it is read with 0.
+fn old_head_of(content: &[u8]) -> Result<Frame, Refusal> {
+    head_of(&[content, &[0; UPDATE_BYTES]].concat())
+}
+
 fn head_of(content: &[u8]) -> Result<Frame, Refusal> {
-    let [timescale, offset, start, duration, depth, first_number] =
-        fields(content, [4, 8, 8, 8, 8, 4])?;
+    let [timescale, offset, start, duration, depth, first_number, update] =
+        fields(content, [4, 8, 8, 8, 8, 4, UPDATE_BYTES])?;
     Ok(Frame::Head(HeadFields {
         timescale,
         offset,
@@ -160,6 +171,7 @@ fn head_of(content: &[u8]) -> Result<Frame, Refusal> {
         duration,
         depth,
         first_number: low_half(first_number),
+        update,
     }))
 }
 
@@ -237,8 +249,8 @@ fn low_half(field: u64) -> u32 {
 }
 
 impl Timeline {
-    /// The whole file: one S for each used run, t on the first only, and the number of the first
-    /// kept reference. Refusal 12.
+    /// The whole file: a head with its update period and the number of the first kept reference, one
+    /// S for each used run, t on the first only. Refusal 12.
     pub fn write(&self) -> Result<Vec<u8>, Refusal> {
         let runs = self.runs();
         if runs.is_empty() {
@@ -261,7 +273,7 @@ impl Timeline {
     fn head_line(&self) -> String {
         let head = self.head();
         format!(
-            "{:02x}{:08x}{:016x}{:016x}{:016x}{:016x}{:08x}\n",
+            "{:02x}{:08x}{:016x}{:016x}{:016x}{:016x}{:08x}{:016x}\n",
             KIND_HEAD,
             head.timescale.get(),
             head.offset.get(),
@@ -269,6 +281,7 @@ impl Timeline {
             head.duration.get(),
             head.depth.get(),
             self.first_kept_number().get(),
+            head.update.get(),
         )
     }
 

@@ -6,9 +6,9 @@ use crate::timeline::{store, totals_held, Timeline};
 use crate::units::{Millis, RefDuration, Tick};
 use crate::window::{Head, HeadFields};
 
-/// Words in a record: timescale, offset, start, duration, depth, first number, accepted, dropped,
-/// next tick, greatest clock, runs used.
-pub const RECORD_WORDS: usize = 11;
+/// Words in a record: timescale, offset, start, duration, depth, first number, update period,
+/// accepted, dropped, next tick, greatest clock, runs used.
+pub const RECORD_WORDS: usize = 12;
 
 /// Words in a run: start, duration, count.
 pub const RUN_WORDS: usize = 3;
@@ -29,7 +29,7 @@ pub fn decode(record: &[u64], table: &[u64]) -> Result<Timeline, Refusal> {
 }
 
 /// Puts a timeline into a record and a table: the runs stand first, all words behind are 0.
-/// The record must be of 11 words, and the table must have room for the runs.
+/// The record must be of 12 words, and the table must have room for the runs.
 pub fn encode(timeline: &Timeline, record: &mut [u64], table: &mut [u64]) {
     let runs = timeline.runs();
     let head = timeline.head();
@@ -40,6 +40,7 @@ pub fn encode(timeline: &Timeline, record: &mut [u64], table: &mut [u64]) {
         head.duration.get(),
         head.depth.get(),
         u64::from(head.first_number.get()),
+        head.update.get(),
         timeline.accepted(),
         timeline.dropped(),
         timeline.next_tick().get(),
@@ -71,6 +72,7 @@ struct Words {
     duration: u64,
     depth: u64,
     first_number: u64,
+    update: u64,
     accepted: u64,
     dropped: u64,
     next_tick: u64,
@@ -99,11 +101,12 @@ impl Words {
             duration: words[3],
             depth: words[4],
             first_number: words[5],
-            accepted: words[6],
-            dropped: words[7],
-            next_tick: words[8],
-            greatest_clock: words[9],
-            runs_used: words[10],
+            update: words[6],
+            accepted: words[7],
+            dropped: words[8],
+            next_tick: words[9],
+            greatest_clock: words[10],
+            runs_used: words[11],
         })
     }
 
@@ -132,6 +135,7 @@ impl Words {
             duration: self.duration,
             depth: self.depth,
             first_number: u32::try_from(self.first_number).ok()?,
+            update: self.update,
         }
         .judge()
         .ok()

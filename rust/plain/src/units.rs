@@ -40,7 +40,8 @@ impl Timescale {
     }
 }
 
-/// Whole milliseconds (period start, duration, window depth, clock): at most 100,000,000,000.
+/// Whole milliseconds (period start, duration, window depth, update period, clock): at most
+/// 100,000,000,000.
 #[derive(Clone, Copy, Debug, PartialEq, Eq, PartialOrd, Ord)]
 pub struct Millis(u64);
 

@@ -19,6 +19,8 @@ pub struct HeadFields {
     pub depth: u64,
     /// Number of the first reference ever accepted.
     pub first_number: u32,
+    /// Update period, in milliseconds.
+    pub update: u64,
 }
 
 impl HeadFields {
@@ -31,6 +33,7 @@ impl HeadFields {
             duration: Millis::new(self.duration).ok_or(Refusal::OverLimit)?,
             depth: Millis::new(self.depth).ok_or(Refusal::OverLimit)?,
             first_number: Number::new(self.first_number),
+            update: Millis::new(self.update).ok_or(Refusal::OverLimit)?,
         })
     }
 }
@@ -50,6 +53,8 @@ pub struct Head {
     pub depth: Millis,
     /// Number of the first reference ever accepted.
     pub first_number: Number,
+    /// Update period: how far past the clock the window reaches.
+    pub update: Millis,
 }
 
 impl Head {
@@ -74,6 +79,11 @@ impl Head {
         } else {
             Some(self.depth.grains(self.timescale))
         }
+    }
+
+    /// The update period.
+    fn update_period(&self) -> Grains {
+        self.update.grains(self.timescale)
     }
 
     /// Where a tick stands: period start plus the tick less the offset.
@@ -103,14 +113,15 @@ impl Head {
     }
 
     /// The window at a clock, given in grains: from the later of period start and c - depth, up
-    /// to the earlier of period end and c. It may be empty.
+    /// to the earlier of period end and c plus the update period. It may be empty. The sum may pass
+    /// the limit of milliseconds.
     pub fn window_at(&self, clock: Grains) -> Span<Grains> {
         let start = self.period_start();
         Span {
             from: self
                 .window_depth()
                 .map_or(start, |depth| start.max(clock - depth)),
-            to: self.up_to_period_end(clock),
+            to: self.up_to_period_end(clock + self.update_period()),
         }
     }
 
@@ -140,17 +151,18 @@ impl Head {
     }
 
     /// Of a clock and all later whole milliseconds, one that tells whether the reference is
-    /// needed at any of them: the first that lies after the beginning of the reference's part
-    /// within the period.
+    /// needed at any of them: the first that, with the update period, lies after the beginning of
+    /// the reference's part within the period.
     ///
-    /// At a clock at or before that beginning the window ends too early to overlap the part. At
-    /// any clock after it the window ends late enough, so that the reference is needed exactly if
-    /// the window begins before the part ends; and the window's beginning never falls as the
-    /// clock rises, so the first such clock is as good as any. Where the part is empty no clock
-    /// needs it and any one tells.
+    /// At an earlier clock the window ends too early to overlap the part. At that one and any
+    /// later the window ends late enough, so that the reference is needed exactly if the window
+    /// begins before the part ends; and the window's beginning never falls as the clock rises, so
+    /// the first such clock is as good as any. Where the part is empty no clock needs it and any
+    /// one tells.
     fn telling_clock(&self, reference: Reference, clock: Grains) -> Grains {
         let part = self.cut_to_period(self.span(reference));
-        clock.max(self.timescale.first_millisecond_after(part.from))
+        let late_enough = part.from - self.update_period();
+        clock.max(self.timescale.first_millisecond_after(late_enough))
     }
 
     /// How many references of a run are spent at c. To be asked only of a run whose end is within

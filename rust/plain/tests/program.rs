@@ -21,19 +21,38 @@ fn run(input: &[u8]) -> String {
 }
 
 const FILE: &str = "\
-01000003e8000000000000000000000000000000000000000000000000000000000000271000000003
+05000003e80000000000000000000000000000000000000000000000000000000000002710000000030000000000000000
 020000000000001f4000000fa000000002
 0300000001
 ";
 
+/// What the program writes for a file at a clock.
+fn ask(clock: u64, file: &str) -> String {
+    run(format!("04{:016x}\n{}", clock, file).as_bytes())
+}
+
 #[test]
 fn the_worked_file() {
-    let at = |clock: u64| run(format!("04{:016x}\n{}", clock, FILE).as_bytes());
-    assert_eq!(at(0), "nothing needed\n");
-    assert_eq!(at(18_000), "complete 10000/10000 100%\n");
-    assert_eq!(at(20_001), "lacking 20000 9999/10000 99%\n");
-    assert_eq!(at(100_000_000_001), "refused 10 line 0\n");
-    assert_eq!(at(u64::MAX), "refused 19 line 0\n");
+    // The same file with a head of the old kind: 01, and no update period.
+    let old = FILE
+        .replace("0000000000000000\n", "\n")
+        .replacen("05", "01", 1);
+    assert_eq!(old.lines().next().map(str::len), Some(82));
+    for file in [FILE, &old] {
+        assert_eq!(ask(0, file), "nothing needed\n");
+        assert_eq!(ask(18_000, file), "complete 10000/10000 100%\n");
+        assert_eq!(ask(20_001, file), "lacking 20000 9999/10000 99%\n");
+        assert_eq!(ask(100_000_000_001, file), "refused 10 line 0\n");
+        assert_eq!(ask(u64::MAX, file), "refused 19 line 0\n");
+    }
+}
+
+#[test]
+fn the_worked_file_with_an_update_period() {
+    let file = FILE.replace("0000000000000000\n", "00000000000007d0\n");
+    assert_eq!(ask(0, &file), "lacking 0 0/2000 0%\n");
+    assert_eq!(ask(18_000, &file), "complete 12000/12000 100%\n");
+    assert_eq!(ask(18_001, &file), "lacking 20000 11999/12000 99%\n");
 }
 
 #[test]
@@ -41,6 +60,6 @@ fn refusals_end_with_status_0_too() {
     assert_eq!(run(b""), "refused 16 line 0\n");
     assert_eq!(run(b"040000000000000000\n"), "refused 16 line 1\n");
     assert_eq!(run(&[0xff; 100_000]), "refused 16 line 0\n");
-    let cut = format!("040000000000000000\n{}", &FILE[..100]);
+    let cut = format!("040000000000000000\n{}", &FILE[..110]);
     assert_eq!(run(cut.as_bytes()), "refused 16 line 2\n");
 }

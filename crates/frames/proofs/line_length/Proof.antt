@@ -16,14 +16,18 @@ returns-4 : tie.Need-returns-4
 returns-4 c = rw (c .match .keys4)
 
 returns-5 : tie.Need-returns-5
-returns-5 c =
+returns-5 c = rw (c .match .keys5)
+
+returns-6 : tie.Need-returns-6
+returns-6 c =
     let k = c .before .args .kind in
     simp (
-      ne-eqb k 1 (c .match .rest .0 .0 .0 .1),
-      ne-eqb k 2 (c .match .rest .0 .0 .1),
-      ne-eqb k 3 (c .match .rest .0 .1),
-      ne-eqb k 4 (c .match .rest .1),
+      ne-eqb k 1 (c .match .rest .0 .0 .0 .0 .1),
+      ne-eqb k 2 (c .match .rest .0 .0 .0 .1),
+      ne-eqb k 3 (c .match .rest .0 .0 .1),
+      ne-eqb k 4 (c .match .rest .0 .1),
+      ne-eqb k 5 (c .match .rest .1),
     )
 
 pub line-length-spec : {M : Type 1} → statement M
-line-length-spec = tie.close (tie.spec returns returns-2 returns-3 returns-4 returns-5)
+line-length-spec = tie.close (tie.spec returns returns-2 returns-3 returns-4 returns-5 returns-6)

@@ -4,63 +4,63 @@ use Rattle.writing.proofs.Whole.{all-number, all-head, all-start, all-r
 use Rattle.writing.proofs.write_all.Statement.{statement}
 use Rattle.writing.proofs.write_all.Tie as tie
 
-kept-head-requires : tie.Need-kept-head-requires
-kept-head-requires c κs =
+head-line-requires : tie.Need-head-line-requires
+head-line-requires c κs =
     let start = c .before .before in
     all-number (start .args .rec) (start .args .table .now) (start .pre .0) (start .args .out .now) (start .pre .1)
 
 write-line-requires : tie.Need-write-line-requires
 write-line-requires c κs =
-    let first = c .before .before in
-    let start = first .before .before .before in
-    all-head (start .args .rec) (start .args .table .now) (start .pre .0) (start .args .out .now) (start .pre .1) _ (first .kept-head .ensures) _ (c .fields .ensures)
+    let line = c .before in
+    let start = line .before .before .before in
+    all-head (start .args .rec) (start .args .table .now) (start .pre .0) (start .args .out .now) (start .pre .1) _ (line .head-line .ensures)
 
 sub-write-runs : tie.Need-sub-write-runs
 sub-write-runs c =
     let first = c .before .before in
-    let kept = first .before .before .before in
-    let start = kept .before .before .before in
-    all-start (start .args .rec) (start .args .table .now) (start .pre .0) (start .args .out .now) (start .pre .1) _ (kept .kept-head .ensures) _ (first .before .fields .ensures) _ _ (first .write-line .ensures)
+    let line = first .before .before in
+    let start = line .before .before .before in
+    all-start (start .args .rec) (start .args .table .now) (start .pre .0) (start .args .out .now) (start .pre .1) _ (line .head-line .ensures) _ _ (first .write-line .ensures)
 
 write-runs-requires : tie.Need-write-runs-requires
 write-runs-requires c κs =
     let first = c .before .before .before in
-    let kept = first .before .before .before in
-    let start = kept .before .before .before in
-    all-runs (start .args .rec) (start .args .table .now) (start .pre .0) (start .args .out .now) (start .pre .1) _ (kept .kept-head .ensures) _ (first .before .fields .ensures) _ _ (first .write-line .ensures)
+    let line = first .before .before in
+    let start = line .before .before .before in
+    all-runs (start .args .rec) (start .args .table .now) (start .pre .0) (start .args .out .now) (start .pre .1) _ (line .head-line .ensures) _ _ (first .write-line .ensures)
 
 add-at : tie.Need-add-at
 add-at c =
     let second = c .before .before in
     let first = second .before .before .before .before in
-    let kept = first .before .before .before in
-    let start = kept .before .before .before in
-    all-fits (start .args .rec) (start .args .table .now) (start .pre .0) (start .args .out .now) (start .pre .1) _ (kept .kept-head .ensures) _ (first .before .fields .ensures) _ _ (first .write-line .ensures) _ _ (second .write-runs .ensures) (start .good .1 .1 .0 .0)
+    let line = first .before .before in
+    let start = line .before .before .before in
+    all-fits (start .args .rec) (start .args .table .now) (start .pre .0) (start .args .out .now) (start .pre .1) _ (line .head-line .ensures) _ _ (first .write-line .ensures) _ _ (second .write-runs .ensures) (start .good .1 .1 .0 .0)
 
 sub-write-line : tie.Need-sub-write-line
 sub-write-line c =
     let second = c .before .before in
     let first = second .before .before .before .before in
-    let kept = first .before .before .before in
-    let start = kept .before .before .before in
-    all-place (start .args .rec) (start .args .table .now) (start .pre .0) (start .args .out .now) (start .pre .1) _ (kept .kept-head .ensures) _ (first .before .fields .ensures) _ _ (first .write-line .ensures) _ _ (second .write-runs .ensures)
+    let line = first .before .before in
+    let start = line .before .before .before in
+    all-place (start .args .rec) (start .args .table .now) (start .pre .0) (start .args .out .now) (start .pre .1) _ (line .head-line .ensures) _ _ (first .write-line .ensures) _ _ (second .write-runs .ensures)
 
 write-line-requires-2 : tie.Need-write-line-requires-2
 write-line-requires-2 c κs =
     let second = c .before .before .before in
     let first = second .before .before .before .before in
-    let kept = first .before .before .before in
-    let start = kept .before .before .before in
-    all-end (start .args .rec) (start .args .table .now) (start .pre .0) (start .args .out .now) (start .pre .1) _ (kept .kept-head .ensures) _ (first .before .fields .ensures) _ _ (first .write-line .ensures) _ _ (second .write-runs .ensures)
+    let line = first .before .before in
+    let start = line .before .before .before in
+    all-end (start .args .rec) (start .args .table .now) (start .pre .0) (start .args .out .now) (start .pre .1) _ (line .head-line .ensures) _ _ (first .write-line .ensures) _ _ (second .write-runs .ensures)
 
 add-result : tie.Need-add-result
 add-result c =
     let third = c .before .before in
     let second = third .before .before .before .before in
     let first = second .before .before .before .before in
-    let kept = first .before .before .before in
-    let start = kept .before .before .before in
-    all-result (start .args .rec) (start .args .table .now) (start .pre .0) (start .args .out .now) (start .pre .1) _ (kept .kept-head .ensures) _ (first .before .fields .ensures) _ _ (first .write-line .ensures) _ _ (second .write-runs .ensures) _ _ (third .write-line2 .ensures)
+    let line = first .before .before in
+    let start = line .before .before .before in
+    all-result (start .args .rec) (start .args .table .now) (start .pre .0) (start .args .out .now) (start .pre .1) _ (line .head-line .ensures) _ _ (first .write-line .ensures) _ _ (second .write-runs .ensures) _ _ (third .write-line2 .ensures)
     (start .good .1 .1 .0 .0)
 
 returns : tie.Need-returns
@@ -68,18 +68,17 @@ returns c =
     let third = c .before .before in
     let second = third .before .before .before .before in
     let first = second .before .before .before .before in
-    let kept = first .before .before .before in
-    let start = kept .before .before .before in (
-      all-long (start .args .rec) (start .args .table .now) (start .pre .0) (start .args .out .now) (start .pre .1) _ (kept .kept-head .ensures) _ (first .before .fields .ensures) _ _ (first .write-line .ensures) _ _ (second .write-runs .ensures) _ _ (third .write-line2 .ensures),
-      all-bytes (start .args .rec) (start .args .table .now) (start .pre .0) (start .args .out .now) (start .pre .1) _ (kept .kept-head .ensures) _ (first .before .fields .ensures) _ _ (first .write-line .ensures) _ _ (second .write-runs .ensures) _ _ (third .write-line2 .ensures),
+    let line = first .before .before in
+    let start = line .before .before .before in (
+      all-long (start .args .rec) (start .args .table .now) (start .pre .0) (start .args .out .now) (start .pre .1) _ (line .head-line .ensures) _ _ (first .write-line .ensures) _ _ (second .write-runs .ensures) _ _ (third .write-line2 .ensures),
+      all-bytes (start .args .rec) (start .args .table .now) (start .pre .0) (start .args .out .now) (start .pre .1) _ (line .head-line .ensures) _ _ (first .write-line .ensures) _ _ (second .write-runs .ensures) _ _ (third .write-line2 .ensures),
     )
 
 pub write-all-spec : {M : Type 1} → statement M
 write-all-spec =
     tie.close
     (tie.spec
-    kept-head-requires
-    (λ c κs. search needs)
+    head-line-requires
     write-line-requires
     sub-write-runs
     sub-write-runs

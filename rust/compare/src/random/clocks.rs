@@ -23,11 +23,15 @@ pub fn clock(generator: &mut Generator, state: &State) -> u64 {
 fn chosen(generator: &mut Generator, state: &State) -> u64 {
     match generator.below(16) {
         0 | 1 => generator.near(state.greatest_clock),
-        2 => generator.near(state.start),
+        2 => {
+            let ahead = generator.pick(&[0, state.update]);
+            generator.near(state.start.saturating_sub(ahead))
+        }
         3 => {
             let end = state.start.saturating_add(state.duration);
             let depth = generator.pick(&[0, state.depth]);
-            generator.near(end.saturating_add(depth))
+            let ahead = generator.pick(&[0, state.update]);
+            generator.near(end.saturating_add(depth).saturating_sub(ahead))
         }
         4..=6 => {
             let later = generator.below(state.depth / 4 + 40);
@@ -49,10 +53,7 @@ fn when_spent(generator: &mut Generator, state: &State) -> u64 {
     generator.near(state.clock_that_passes(tick))
 }
 
-/// About the moment at which the next tick comes.
+/// About the moment at which the next tick comes into the window.
 fn when_produced(generator: &mut Generator, state: &State) -> u64 {
-    let moment = state
-        .clock_that_passes(state.next_tick)
-        .saturating_sub(state.depth);
-    generator.near(moment)
+    generator.near(state.clock_that_reaches(state.next_tick))
 }

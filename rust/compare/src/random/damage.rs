@@ -17,7 +17,8 @@ pub fn damage(generator: &mut Generator, lent: &Lent) -> Vec<Damage> {
         2 => run_split(generator, &state, lent.table.len()),
         3 => run_added(generator, &state, lent.table.len()),
         4 => gap_between_runs(generator, &state),
-        5 => vec![one_word(generator, lent), one_word(generator, lent)],
+        5 => vec![update_period(generator)],
+        6 => vec![one_word(generator, lent), one_word(generator, lent)],
         _ => vec![one_word(generator, lent)],
     }
 }
@@ -56,6 +57,18 @@ fn one_word(generator: &mut Generator, lent: &Lent) -> Damage {
         place,
         word: other_word(generator, old),
     }
+}
+
+/// Another update period: any within its limit agrees.
+fn update_period(generator: &mut Generator) -> Damage {
+    let within = [0, 1, 2_000, limits::MILLIS - 1, limits::MILLIS];
+    let over = [limits::MILLIS + 1, u64::MAX];
+    let word = if generator.one_in(3) {
+        generator.pick(&over)
+    } else {
+        generator.pick(&within)
+    };
+    record(word::UPDATE_PERIOD, word)
 }
 
 fn other_word(generator: &mut Generator, old: u64) -> u64 {

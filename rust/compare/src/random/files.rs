@@ -63,6 +63,7 @@ pub fn file_of_many_runs(generator: &mut Generator) -> Vec<u8> {
         offset: generator.pick(&[0, 0, 3]),
         duration: generator.pick(&[0, 1_600, 1_600]),
         depth: generator.pick(&[0, 500]),
+        update: generator.pick(&[0, 40]),
         ..Opening::OPEN_ENDED
     };
     let plan = Plan {
@@ -87,7 +88,7 @@ pub fn file_of_many_lines(generator: &mut Generator) -> Vec<u8> {
         first_number: 7,
         ..Opening::OPEN_ENDED
     };
-    let mut lines = vec![Line::Head(head)];
+    let mut lines = vec![head_line(generator, head)];
     let change = generator.below(many);
     for at in 0..many {
         let d = if at < change { 5 } else { 6 };
@@ -99,6 +100,15 @@ pub fn file_of_many_lines(generator: &mut Generator) -> Vec<u8> {
     }
     lines.push(Line::End(many as u32));
     bytes_of(&lines)
+}
+
+/// A head line of either kind.
+fn head_line(generator: &mut Generator, head: Opening) -> Line {
+    if generator.one_in(3) {
+        Line::OldHead(head)
+    } else {
+        Line::Head(head)
+    }
 }
 
 fn file_of(generator: &mut Generator, lines: u64) -> Vec<u8> {
@@ -134,7 +144,7 @@ fn file_of(generator: &mut Generator, lines: u64) -> Vec<u8> {
 /// can stand on it.
 fn lines_of(generator: &mut Generator, head: Opening, plan: &Plan) -> Vec<Line> {
     let mut state = State::opened(&head);
-    let mut lines = vec![Line::Head(head)];
+    let mut lines = vec![head_line(generator, head)];
     let ends_at_flaw = generator.one_in(2);
     let many = match plan.flaw {
         Some((at, _)) if ends_at_flaw => at + 1,

@@ -25,7 +25,7 @@ pub fn over_a_limit(generator: &mut Generator) -> Opening {
             limit + 1
         }
     };
-    match generator.below(6) {
+    match generator.below(8) {
         0 => {
             let over = limits::TIMESCALE as u32 + 1;
             opening.timescale = generator.pick(&[0, 0, over, u32::MAX]);
@@ -34,6 +34,9 @@ pub fn over_a_limit(generator: &mut Generator) -> Opening {
         2 => opening.start = over(limits::MILLIS, generator),
         3 => opening.duration = over(limits::MILLIS, generator),
         4 => opening.depth = over(limits::MILLIS, generator),
+        5 => opening.update = over(limits::MILLIS, generator),
+        // All ones are over the limit too, and not an update period that is absent.
+        6 => opening.update = u64::MAX,
         _ => opening.first_tick = over(limits::TICK, generator),
     }
     opening
@@ -49,6 +52,7 @@ fn small(generator: &mut Generator) -> Opening {
     };
     let period = generator.pick(&[0, 0, 0, 1, 2, 20, 60, 150, 300]);
     let depth = generator.pick(&[0, 0, 1, 5, 20, 60, 100]);
+    let update = generator.pick(&[0, 0, 0, 1, 5, 20, 60]);
     let offset =
         generator.pick(&[0, 0, 0, (1 << 32) - 60, limits::TICK - 150]) + generator.below(80);
     Opening {
@@ -58,6 +62,7 @@ fn small(generator: &mut Generator) -> Opening {
         duration: millis(period, generator),
         depth: millis(depth, generator),
         first_number: first_number(generator),
+        update: millis(update, generator),
         first_tick: match generator.below(4) {
             0 => offset.saturating_sub(generator.below(40)),
             1 => offset + generator.below(20),
@@ -76,6 +81,7 @@ fn live(generator: &mut Generator) -> Opening {
         duration: generator.pick(&[0, 0, 60_000, 3_600_000]),
         depth: generator.pick(&[0, 10_000, 60_000, 7_200_000]),
         first_number: first_number(generator),
+        update: generator.pick(&[0, 0, 2_000, 30_000]),
         first_tick: offset + generator.pick(&[0, 0, 1, 100_000]),
     }
 }
@@ -89,6 +95,7 @@ fn late(generator: &mut Generator) -> Opening {
         duration: generator.pick(&[0, 0, 40, 1_000]),
         depth: generator.pick(&[0, 10, 10_000]),
         first_number: generator.pick(&[0, 1, (1 << 31) - 1, 1 << 31]),
+        update: generator.pick(&[0, 0, 1, 10_000]),
         first_tick: generator.pick(&[0, 0, 1]),
     }
 }
@@ -111,6 +118,7 @@ fn at_limits(generator: &mut Generator) -> Opening {
         duration: millis(generator),
         depth: millis(generator),
         first_number: first_number(generator),
+        update: millis(generator),
         first_tick: match generator.below(3) {
             0 => tick(generator),
             _ => offset,

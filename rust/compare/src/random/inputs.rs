@@ -32,6 +32,8 @@ fn input(generator: &mut Generator) -> Vec<u8> {
             mutations::damage(generator, &mut input);
             input
         }
+        // No clock line: a head stands in its place.
+        5 => files::file(generator),
         _ => with_clock(generator, files::file),
     }
 }
@@ -85,7 +87,7 @@ fn over_long(generator: &mut Generator) -> Vec<u8> {
     } else {
         with_clock(generator, files::file)
     };
-    let length = generator.pick(&[81, 82, 83, 84, 95, 96, 97, 4_096, 70_000]);
+    let length = generator.pick(&[81, 82, 83, 97, 98, 99, 100, 4_096, 70_000]);
     let line = vec![generator.pick(b"0af\0"); length];
     let feeds = (0..input.len()).filter(|at| input[*at] == b'\n');
     let places: Vec<usize> = feeds.map(|at| at + 1).chain([0]).collect();

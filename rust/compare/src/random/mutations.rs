@@ -21,7 +21,7 @@ pub fn reorder(generator: &mut Generator, lines: &mut Vec<Line>) {
         }
         3 => lines.insert(at, Line::End(generator.below(4) as u32)),
         4 => {
-            let line = lines[0].clone();
+            let line = second_head(generator, &lines[0]);
             lines.insert(at, line);
         }
         5 => wrong_number(generator, lines),
@@ -42,6 +42,15 @@ pub fn reorder(generator: &mut Generator, lines: &mut Vec<Line>) {
     }
 }
 
+/// The first line once more. Where it is a head it may be of the other kind.
+fn second_head(generator: &mut Generator, first: &Line) -> Line {
+    match first {
+        Line::Head(head) if generator.one_in(2) => Line::OldHead(*head),
+        Line::OldHead(head) if generator.one_in(2) => Line::Head(*head),
+        line => line.clone(),
+    }
+}
+
 fn wrong_number(generator: &mut Generator, lines: &mut [Line]) {
     let wrong = generator.pick(&[0, 1, 2, u32::MAX]);
     let more = generator.one_in(2);
@@ -59,7 +68,7 @@ pub fn damage(generator: &mut Generator, bytes: &mut Vec<u8>) {
         return;
     }
     let at = generator.place(bytes.len());
-    match generator.below(16) {
+    match generator.below(17) {
         0..=2 => bytes[at] = generator.pick(b"0123456789abcdef"),
         3 => bytes[at] = generator.pick(b"ABCDEFGg \t\r\n\0/:`\x7f\x80\xff-+xX"),
         4 => {
@@ -77,6 +86,7 @@ pub fn damage(generator: &mut Generator, bytes: &mut Vec<u8>) {
         }
         13 => bytes.extend(extra(generator)),
         14 => digit_of_a_field(generator, bytes),
+        15 => head_of_the_other_kind(bytes),
         _ => bytes.insert(0, generator.pick(b"\n0 ")),
     }
 }
@@ -93,10 +103,23 @@ fn begins(bytes: &[u8]) -> Vec<usize> {
 fn wrong_kind(generator: &mut Generator, bytes: &mut [u8]) {
     let begin = generator.pick(&begins(bytes));
     let kind = generator.pick(&[
-        "00", "01", "02", "03", "04", "05", "10", "20", "ff", "0g", "0A",
+        "00", "01", "02", "03", "04", "05", "06", "10", "20", "ff", "0g", "0A",
     ]);
     for (byte, digit) in bytes[begin..].iter_mut().zip(kind.bytes()) {
         *byte = digit;
+    }
+}
+
+/// The other kind of head on the first head line; its length stays, and so does not fit.
+fn head_of_the_other_kind(bytes: &mut [u8]) {
+    for begin in begins(bytes) {
+        let other = match bytes.get(begin..begin + 2) {
+            Some(b"01") => b'5',
+            Some(b"05") => b'1',
+            _ => continue,
+        };
+        bytes[begin + 1] = other;
+        return;
     }
 }
 
@@ -161,7 +184,7 @@ fn extra(generator: &mut Generator) -> &'static [u8] {
 /// A high digit of some field of a line, so that the field passes its limit.
 fn digit_of_a_field(generator: &mut Generator, bytes: &mut [u8]) {
     let begin = generator.pick(&begins(bytes));
-    let field = generator.pick(&[2, 10, 18, 26, 34, 42, 58, 74]);
+    let field = generator.pick(&[2, 10, 18, 26, 34, 42, 58, 74, 82]);
     if let Some(byte) = bytes.get_mut(begin + field) {
         if *byte != b'\n' {
             *byte = generator.pick(b"0178f");

@@ -14,7 +14,7 @@ use crate::weight;
 const MOST_KEPT: u64 = 3_000;
 
 /// Bytes of a head line and an end line, and of an S line, with their line feeds.
-const HEAD_AND_END: usize = 83 + 11;
+const HEAD_AND_END: usize = 99 + 11;
 const S_LINE: usize = 35;
 
 /// The step of a seed in this memory.
@@ -23,7 +23,7 @@ pub fn step(seed: u64, lent: &Lent) -> Step {
     let state = State::of(lent);
     let mut step = Step::of(call(&mut generator, &state));
     match generator.below(60) {
-        0 => step.record_words = generator.pick(&[0, 1, 10, 12, 22]),
+        0 => step.record_words = generator.pick(&[0, 1, 11, 13, 24]),
         1 if step.out_words > 0 => {
             let right = step.out_words;
             step.out_words = generator.pick(&[0, right - 1, right + 1, right + 5]);

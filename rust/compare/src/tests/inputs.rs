@@ -5,10 +5,12 @@ use std::cell::Cell;
 use crate::arguments::SEED;
 use crate::generator::Generator;
 use crate::inputs::{inputs_of, judge, plain_answer};
-use crate::kinds;
+use crate::opening::Opening;
 use crate::program::Outcome;
 use crate::random::inputs::light_input;
 use crate::tally::Tally;
+use crate::text::{bytes_of, head_fields, Line};
+use crate::{kinds, limits};
 
 fn wrote(answer: &str) -> Outcome {
     Outcome {
@@ -85,6 +87,42 @@ fn a_program_that_takes_a_carriage_return() {
 #[test]
 fn a_program_that_takes_upper_case() {
     let wrong = |input: &[u8]| wrote(&plain_answer(&input.to_ascii_lowercase()));
+    assert!(first_report(wrong).is_some());
+}
+
+/// An input whose heads have update period 0, whichever they had.
+fn without_update(input: &[u8]) -> Vec<u8> {
+    let lines = input.split_inclusive(|byte| *byte == b'\n');
+    let without = lines.map(
+        |line| match line.strip_suffix(b"\n").and_then(head_fields) {
+            Some(head) if line.starts_with(b"05") && head.update <= limits::MILLIS => {
+                bytes_of(&[Line::Head(Opening { update: 0, ..head })])
+            }
+            _ => line.to_vec(),
+        },
+    );
+    without.collect::<Vec<_>>().concat()
+}
+
+#[test]
+fn a_program_that_knows_no_update_period() {
+    let wrong = |input: &[u8]| wrote(&plain_answer(&without_update(input)));
+    let report = first_report(wrong).expect("a report");
+    // The clock line, the head, an S line and the end line are enough.
+    assert!(report.matches("\\n\n").count() <= 4, "{}", report);
+}
+
+#[test]
+fn a_program_that_takes_an_05_for_an_unknown_kind() {
+    let wrong = |input: &[u8]| {
+        let first = input.split(|byte| *byte == b'\n').nth(1);
+        let is_new = first.map_or(false, |line| line.starts_with(b"05"));
+        wrote(&if is_new {
+            "refused 16 line 1\n".to_string()
+        } else {
+            plain_answer(input)
+        })
+    };
     assert!(first_report(wrong).is_some());
 }
 

@@ -1,9 +1,12 @@
 //! The kinds that are counted are the right ones.
 
-use crate::kinds::{meet_input, refused_line};
+use crate::kinds::meet_input;
+use crate::lines::{head_of, refused_line};
 use crate::tally::Tally;
 
 const HEAD: &str =
+    "05000003e80000000000000000000000000000000000000000000000000000000000002710000000030000000000000000\n";
+const OLD_HEAD: &str =
     "01000003e8000000000000000000000000000000000000000000000000000000000000271000000003\n";
 const S: &str = "020000000000001f4000000fa000000002\n";
 const NEGATIVE: &str = "02000000000000000000000001ffffffff\n";
@@ -15,11 +18,13 @@ fn kind(lines: &[&str], line: u64, number: u32) -> String {
 
 #[test]
 fn kinds_of_refused_lines() {
-    assert_eq!(kind(&[HEAD, S, END], 1, 1), "1 head");
+    assert_eq!(kind(&[HEAD, S, END], 1, 1), "1 head 05");
+    assert_eq!(kind(&[OLD_HEAD, S, END], 1, 1), "1 head 01");
     assert_eq!(kind(&[HEAD, S, END], 2, 1), "1 S");
     assert_eq!(kind(&[HEAD, NEGATIVE, END], 2, 18), "18 S with negative r");
     assert_eq!(kind(&[HEAD, S, S], 3, 5), "5 S");
-    assert_eq!(kind(&[HEAD, HEAD], 2, 17), "17 head");
+    assert_eq!(kind(&[HEAD, HEAD], 2, 17), "17 head 05");
+    assert_eq!(kind(&[HEAD, OLD_HEAD], 2, 17), "17 head 01");
     assert_eq!(kind(&[S], 1, 17), "17 S");
     assert_eq!(kind(&[NEGATIVE], 1, 17), "17 S with negative r");
     assert_eq!(kind(&[HEAD, NEGATIVE, S], 3, 17), "17 S behind negative r");
@@ -33,13 +38,42 @@ fn kinds_of_bad_lines() {
     assert_eq!(kind(&[HEAD], 2, 16), "16 missing");
     assert_eq!(kind(&[HEAD, "02000"], 2, 16), "16 unended");
     assert_eq!(kind(&[HEAD, "02000\n"], 2, 16), "16 S");
-    assert_eq!(kind(&["01\n", S], 1, 16), "16 head");
+    assert_eq!(kind(&["01\n", S], 1, 16), "16 head 01");
+    assert_eq!(kind(&["05\n", S], 1, 16), "16 head 05");
     assert_eq!(kind(&[HEAD, S, "03\n"], 3, 16), "16 end");
     assert_eq!(kind(&[HEAD, "\n"], 2, 16), "16 other kind");
     assert_eq!(kind(&[HEAD, "04\n"], 2, 16), "16 other kind");
     assert_eq!(kind(&[HEAD, S, END, "0"], 4, 16), "16 behind the end");
     assert_eq!(kind(&[HEAD, S, END, "\n"], 4, 16), "16 behind the end");
     assert_eq!(kind(&[HEAD, S, END, S], 4, 16), "16 behind the end");
+}
+
+#[test]
+fn kinds_of_heads() {
+    let over = HEAD.replace("0000000000000000\n", "ffffffffffffffff\n");
+    assert_eq!(kind(&[&over], 1, 1), "1 update period");
+    assert_eq!(kind(&[HEAD, &over], 2, 17), "17 head 05");
+    let no_timescale = over.replace("03e8", "0000");
+    assert_eq!(kind(&[&no_timescale], 1, 1), "1 head 05");
+    let long = HEAD.replacen("05", "01", 1);
+    assert_eq!(kind(&[&long], 1, 16), "16 head 01 as long as 05");
+    let short = OLD_HEAD.replacen("01", "05", 1);
+    assert_eq!(kind(&[&short], 1, 16), "16 head 05 as long as 01");
+    assert_eq!(head_of(HEAD.as_bytes()), Some("05 with update period 0"));
+    assert_eq!(head_of(over.as_bytes()), Some("05 with another"));
+    assert_eq!(head_of(OLD_HEAD.as_bytes()), Some("01"));
+    assert_eq!(head_of(S.as_bytes()), None);
+}
+
+#[test]
+fn a_head_on_the_clock_line() {
+    let mut tally = Tally::default();
+    tally.announce("desk refused, line 0", &["16", "16 head 01", "16 head 05"]);
+    for line in [HEAD, OLD_HEAD, S] {
+        meet_input(&mut tally, line.as_bytes(), "refused 16 line 0");
+    }
+    assert_eq!(tally.never_met(), [""; 0]);
+    assert_eq!(tally.surprises(), [""; 0]);
 }
 
 #[test]

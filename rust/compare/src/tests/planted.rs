@@ -78,7 +78,7 @@ fn an_append_that_makes_up_what_it_accepted() {
         }
         number
     };
-    found(Face { append, ..PLAIN }, "record word 6");
+    found(Face { append, ..PLAIN }, "record word 7");
 }
 
 #[test]
@@ -134,6 +134,23 @@ fn a_trim_that_forgets_the_next_tick_of_an_emptied_table() {
         }
         number
     };
+    found(Face { trim, ..PLAIN }, "record word 9");
+}
+
+#[test]
+fn a_trim_that_goes_by_the_clock_plus_the_update_period() {
+    let trim = |record: &mut [u64], table: &mut [u64], clock: u64| {
+        let at = |place: usize| record.get(place).copied().unwrap_or(0);
+        let later = clock.saturating_add(at(word::UPDATE_PERIOD));
+        if clock <= at(word::GREATEST_CLOCK) || later > limits::MILLIS {
+            return (PLAIN.trim)(record, table, clock);
+        }
+        let number = (PLAIN.trim)(record, table, later);
+        if number == 0 {
+            record[word::GREATEST_CLOCK] = clock;
+        }
+        number
+    };
     found(Face { trim, ..PLAIN }, "record word 8");
 }
 
@@ -147,6 +164,37 @@ fn a_verdict_that_always_says_complete() {
         number
     };
     found(Face { verdict, ..PLAIN }, "out word 0: 1 and 2");
+}
+
+/// The same memory with an update period of 0; one over its limit stays.
+fn without_update(record: &[u64]) -> Vec<u64> {
+    let mut record = record.to_vec();
+    if let Some(update) = record.get_mut(word::UPDATE_PERIOD) {
+        if *update <= limits::MILLIS {
+            *update = 0;
+        }
+    }
+    record
+}
+
+#[test]
+fn a_verdict_that_ignores_the_update_period() {
+    let verdict = |record: &[u64], table: &[u64], clock, out: &mut [u64]| {
+        (PLAIN.verdict)(&without_update(record), table, clock, out)
+    };
+    found(Face { verdict, ..PLAIN }, "out word ");
+}
+
+#[test]
+fn an_edge_that_ignores_the_update_period() {
+    let covered_edge = |record: &[u64], table: &[u64], out: &mut [u64]| {
+        (PLAIN.covered_edge)(&without_update(record), table, out)
+    };
+    let planted = Face {
+        covered_edge,
+        ..PLAIN
+    };
+    found(planted, "out word ");
 }
 
 #[test]
@@ -269,6 +317,30 @@ fn a_reading_that_leaves_words_when_refused() {
         number
     };
     found(Face { read, ..PLAIN }, "table word 0");
+}
+
+#[test]
+fn a_reading_that_forgets_the_update_period() {
+    let read = |bytes: &[u8], record: &mut [u64], table: &mut [u64], out: &mut [u64]| {
+        let number = (PLAIN.read)(bytes, record, table, out);
+        if number == 0 {
+            record[word::UPDATE_PERIOD] = 0;
+        }
+        number
+    };
+    found(Face { read, ..PLAIN }, "record word 6");
+}
+
+#[test]
+fn a_reading_that_makes_up_the_update_period_of_an_old_head() {
+    let read = |bytes: &[u8], record: &mut [u64], table: &mut [u64], out: &mut [u64]| {
+        let number = (PLAIN.read)(bytes, record, table, out);
+        if number == 0 && bytes.starts_with(b"01") {
+            record[word::UPDATE_PERIOD] = 2_000;
+        }
+        number
+    };
+    found(Face { read, ..PLAIN }, "record word 6: 2000 and 0");
 }
 
 #[test]

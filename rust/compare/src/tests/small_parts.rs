@@ -114,6 +114,20 @@ fn lines_are_made_and_read() {
     assert_eq!(s_fields(b"020000000000001F4000000fa0fffffffe"), None);
     assert_eq!(s_fields(b"020000000000001f4000000fa0ffffffe"), None);
     assert_eq!(head_fields(s.text().as_bytes()), None);
+    let head = Opening {
+        first_number: 3,
+        update: 2_000,
+        ..Opening::OPEN_ENDED
+    };
+    let (new, old) = (Line::Head(head).text(), Line::OldHead(head).text());
+    assert!(new.starts_with("05000003e8") && new.ends_with("0000000300000000000007d0"));
+    assert!(old.starts_with("01000003e8") && old.ends_with("00000003"));
+    assert_eq!((new.len(), old.len()), (98, 82));
+    assert_eq!(head_fields(new.as_bytes()), Some(head));
+    let none = Opening { update: 0, ..head };
+    assert_eq!(head_fields(old.as_bytes()), Some(none));
+    assert_eq!(head_fields(new.replacen("05", "01", 1).as_bytes()), None);
+    assert_eq!(head_fields(old.replacen("01", "05", 1).as_bytes()), None);
     assert_eq!(bytes_of(&[Line::End(1)]), b"0300000001\n");
     assert_eq!(shown(b"0\r\n\xff"), "0\\r\\n\n\\xff");
 }

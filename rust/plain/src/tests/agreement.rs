@@ -4,7 +4,7 @@ use super::by_hand::case_b;
 use super::literal::Literal;
 use super::sequences::random_states;
 use super::support::*;
-use crate::record::decode;
+use crate::record::{decode, RECORD_WORDS};
 use crate::units::{Millis, Tick};
 use crate::window::HeadFields;
 
@@ -40,11 +40,22 @@ fn head_words_over_their_limits() {
         (DURATION, vec![Millis::MAX + 1, u64::MAX]),
         (DEPTH, vec![Millis::MAX + 1, u64::MAX]),
         (FIRST_NUMBER, vec![1 << 32, u64::MAX]),
+        (UPDATE, vec![Millis::MAX + 1, 1 << 63, u64::MAX]),
         (GREATEST_CLOCK, vec![Millis::MAX + 1, u64::MAX]),
     ] {
         for value in values {
             disagrees_after(&lent, |lent| lent.record[word] = value);
         }
+    }
+}
+
+#[test]
+fn any_update_period_within_its_limit() {
+    let mut lent = case_b();
+    assert_eq!(lent.trim(13_999), 0);
+    for update in [0, 1, 2_000, Millis::MAX - 1, Millis::MAX] {
+        lent.record[UPDATE] = update;
+        assert!(agrees(&lent));
     }
 }
 
@@ -264,6 +275,7 @@ fn limits_held(record: &[i128]) -> bool {
         && record[START] <= most_millis
         && record[DURATION] <= most_millis
         && record[DEPTH] <= most_millis
+        && record[UPDATE] <= most_millis
         && record[GREATEST_CLOCK] <= most_millis
         && record[FIRST_NUMBER] < 1 << 32
         && record[ACCEPTED] <= 1 << 31
@@ -297,6 +309,7 @@ fn references_agree(record: &[i128], runs: &[&[i128]]) -> bool {
         duration: record[DURATION],
         depth: record[DEPTH],
         first_number: record[FIRST_NUMBER],
+        update: record[UPDATE],
     };
     let starts_past = |start: i128| match literal.period_end() {
         Some(end) => literal.place(start) >= end,
@@ -337,10 +350,10 @@ fn small_enough(record: &[u64]) -> bool {
 fn damaged(generator: &mut Generator, lent: &Lent) -> Lent {
     let mut damaged = lent.clone();
     for _ in 0..generator.between(1, 2) {
-        let at = generator.below((11 + damaged.table.len()) as u64) as usize;
-        let word = match at {
-            0..=10 => &mut damaged.record[at],
-            _ => &mut damaged.table[at - 11],
+        let at = generator.below((RECORD_WORDS + damaged.table.len()) as u64) as usize;
+        let word = match at.checked_sub(RECORD_WORDS) {
+            None => &mut damaged.record[at],
+            Some(at) => &mut damaged.table[at],
         };
         *word = damaged_word(generator, *word);
     }
@@ -372,7 +385,7 @@ fn words_of_pure_chance_disagree() {
     for _ in 0..2_000 {
         let words = generator.below(20) as usize;
         let mut lent = Lent {
-            record: (0..11).map(|_| generator.next()).collect(),
+            record: (0..RECORD_WORDS).map(|_| generator.next()).collect(),
             table: (0..words).map(|_| generator.next()).collect(),
         };
         assert_eq!(lent.join(1, 1), 2);

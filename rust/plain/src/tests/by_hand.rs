@@ -12,12 +12,24 @@ fn case_a() -> Lent {
 
 /// Case B with its five references.
 pub fn case_b() -> Lent {
-    let mut lent = Lent::opened(CASE_B, 0, 30);
+    five_of_4000(CASE_B)
+}
+
+fn five_of_4000(head: HeadFields) -> Lent {
+    let mut lent = Lent::opened(head, 0, 30);
     assert_eq!(lent.append(0, 4000, 5), 0);
     lent
 }
 
+/// Case B after its trim at 18,000, as it is written.
 const WORKED_FILE: &str = "\
+05000003e80000000000000000000000000000000000000000000000000000000000002710000000030000000000000000
+020000000000001f4000000fa000000002
+0300000001
+";
+
+/// The same with the head line that was written before there was an update period.
+const OLD_WORKED_FILE: &str = "\
 01000003e8000000000000000000000000000000000000000000000000000000000000271000000003
 020000000000001f4000000fa000000002
 0300000001
@@ -49,21 +61,25 @@ fn a_words() {
     let lent = case_a();
     assert_eq!(
         lent.record,
-        [10, 100, 30_000, 10_000, 0, 0, 2, 0, 161, 0, 2]
+        [10, 100, 30_000, 10_000, 0, 0, 0, 2, 0, 161, 0, 2]
     );
     assert_eq!(lent.table[..6], [111, 40, 1, 151, 10, 1]);
     assert!(lent.table[6..].iter().all(|word| *word == 0));
 }
 
-#[test]
-fn b_trims() {
-    let mut lent = case_b();
+/// The trims of case B, which no update period moves.
+fn trims_of_case_b(mut lent: Lent) {
     for (clock, dropped) in [(13_999, 0), (14_000, 1), (18_000, 2)] {
         assert_eq!(lent.trim(clock), 0);
         assert_eq!(lent.record[DROPPED], dropped);
         assert_eq!(lent.record[ACCEPTED], 5);
         assert_eq!(lent.table[..3], [dropped * 4000, 4000, 5 - dropped]);
     }
+}
+
+#[test]
+fn b_trims() {
+    trims_of_case_b(case_b());
 }
 
 #[test]
@@ -99,9 +115,9 @@ fn b_the_worked_file() {
     let mut lent = case_b();
     assert_eq!(lent.trim(18_000), 0);
     assert_eq!(lent.write(), Ok(WORKED_FILE.as_bytes().to_vec()));
-    assert_eq!(WORKED_FILE.lines().next().map(str::len), Some(82));
+    assert_eq!(WORKED_FILE.lines().next().map(str::len), Some(98));
     let length = WORKED_FILE.len();
-    assert_eq!(length, 83 + 35 + 11);
+    assert_eq!(length, 145);
     assert_eq!(lent.write_into(length), Ok(WORKED_FILE.as_bytes().to_vec()));
     assert_eq!(lent.write_into(length - 1), Err(15));
 }
@@ -110,9 +126,64 @@ fn b_the_worked_file() {
 fn b_the_worked_file_read_back() {
     let mut lent = case_b();
     assert_eq!(lent.trim(18_000), 0);
-    let again = read_into(30, WORKED_FILE).expect("an accepted file");
-    assert_eq!(again.table, lent.table);
-    assert_eq!(again.record, [1000, 0, 0, 0, 10_000, 3, 3, 0, 20_000, 0, 1]);
+    let record = [1000, 0, 0, 0, 10_000, 3, 0, 3, 0, 20_000, 0, 1];
+    for text in [WORKED_FILE, OLD_WORKED_FILE] {
+        let again = read_into(30, text).expect("an accepted file");
+        assert_eq!(again.table, lent.table);
+        assert_eq!(again.record, record);
+        assert_eq!(again.write(), Ok(WORKED_FILE.as_bytes().to_vec()));
+    }
+}
+
+#[test]
+fn b_with_an_update_period_covers_past_the_clock_too() {
+    let lent = five_of_4000(CASE_B_UPDATE);
+    assert_eq!(lent.verdict(0), Ok([1, 2_000, 2_000, 0, 100]));
+    assert_eq!(lent.verdict(14_000), Ok([1, 12_000, 12_000, 0, 100]));
+    assert_eq!(lent.verdict(18_000), Ok([1, 12_000, 12_000, 0, 100]));
+    assert_eq!(lent.verdict(18_001), Ok([2, 12_000, 11_999, 20_000, 99]));
+    assert_eq!(lent.covered_edge(), Ok([1, 18_000]));
+}
+
+#[test]
+fn b_with_an_update_period_trims_and_is_available_as_before() {
+    let lent = five_of_4000(CASE_B_UPDATE);
+    assert_eq!(lent.availability(3), Ok([1, 12_000_000, 26_000_000]));
+    assert_eq!(lent.verdict_whole(), Err(19));
+    trims_of_case_b(lent);
+}
+
+#[test]
+fn b_with_an_update_period_compares_the_clock_that_is_given() {
+    let mut lent = five_of_4000(CASE_B_UPDATE);
+    assert_eq!(lent.trim(18_000), 0);
+    assert_eq!(lent.verdict(17_999), Err(11));
+    assert_eq!(lent.verdict(18_000), Ok([1, 12_000, 12_000, 0, 100]));
+}
+
+#[test]
+fn b_with_an_update_period_is_written_with_it() {
+    let lent = five_of_4000(CASE_B_UPDATE);
+    let text = file(CASE_B_UPDATE, &[(0, 4000, 4)]);
+    assert!(text.starts_with("05000003e8") && text[..98].ends_with("00000000000007d0"));
+    assert_eq!(lent.write(), Ok(text.clone().into_bytes()));
+    assert_eq!(read_into(30, &text), Ok(lent));
+}
+
+/// A period start that the clock has not reached, and the update period has.
+#[test]
+fn the_window_opens_before_the_period_start() {
+    let head = HeadFields {
+        start: 10,
+        update: 15,
+        ..OPEN_ENDED
+    };
+    let mut lent = Lent::opened(head, 0, 30);
+    assert_eq!(lent.verdict(0), Ok([2, 5, 0, 0, 0]));
+    assert_eq!(lent.join(5, 1), 0);
+    assert_eq!(lent.verdict(0), Ok([1, 5, 5, 0, 100]));
+    assert_eq!(lent.verdict(1), Ok([2, 6, 5, 5, 83]));
+    assert_eq!(lent.covered_edge(), Ok([1, 0]));
 }
 
 #[test]

@@ -124,6 +124,7 @@ fn far_head(generator: &mut Generator) -> (HeadFields, u64) {
         duration: up_to(generator, Millis::MAX),
         depth: up_to(generator, Millis::MAX),
         first_number: 0,
+        update: up_to(generator, Millis::MAX),
     };
     (head, up_to(generator, Millis::MAX))
 }
@@ -205,6 +206,73 @@ fn spent_count_against_counting() {
         assert_eq!(found, counted as u64);
     }
     assert!(compared > 1_000);
+}
+
+/// The law of the update period, over the integers: the sums may pass the limits.
+#[test]
+fn the_window_is_that_of_a_later_clock_and_a_deeper_window() {
+    let mut generator = Generator::new(19);
+    for _ in 0..4_000 {
+        let (fields, clock) = far_head(&mut generator);
+        let head = fields.judge().expect("a head within its limits");
+        let literal = Literal::of(fields);
+        let deeper = Literal {
+            depth: match literal.depth {
+                0 => 0,
+                depth => depth + literal.update,
+            },
+            update: 0,
+            ..literal
+        };
+        let window = head.window_at(grains(&head, clock));
+        let later = i128::from(clock) + literal.update;
+        assert_eq!((window.from.get(), window.to.get()), deeper.window(later));
+    }
+}
+
+#[test]
+fn spent_takes_no_part_of_the_update_period() {
+    for case in cases(20, 2_000) {
+        let without = HeadFields {
+            update: 0,
+            ..case.fields
+        };
+        let without = without.judge().expect("a head within its limits");
+        let clock = grains(&without, case.clock);
+        assert_eq!(case.spent(case.one()), without.spent(case.one(), clock));
+    }
+}
+
+#[test]
+fn the_covered_edge_by_the_paper() {
+    let (mut none, mut clocks, mut limit) = (0, 0, 0);
+    for (_, head, lent) in random_states(960_000, 2_000) {
+        let literal = Literal::of(head);
+        let next = literal.place(i128::from(lent.record[NEXT_TICK]));
+        let passes = |clock: u64| literal.window(i128::from(clock)).1 > next;
+        match lent.covered_edge().expect("an accepted question") {
+            [0, 0] => {
+                assert!(passes(0));
+                none += 1;
+            }
+            [1, Millis::MAX] => {
+                assert!(!passes(Millis::MAX));
+                limit += 1;
+            }
+            [1, edge] => {
+                assert!(!passes(edge) && passes(edge + 1));
+                clocks += 1;
+            }
+            other => panic!("{:?}", other),
+        }
+    }
+    assert!(
+        none > 100 && clocks > 100 && limit > 100,
+        "{} {} {}",
+        none,
+        clocks,
+        limit
+    );
 }
 
 #[test]

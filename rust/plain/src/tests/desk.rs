@@ -23,6 +23,23 @@ fn the_answers_of_case_b() {
 }
 
 #[test]
+fn the_answers_of_case_b_with_an_update_period() {
+    let text = file(CASE_B_UPDATE, &[(0, 4000, 4)]);
+    assert_eq!(ask(0, &text), "complete 2000/2000 100%\n");
+    assert_eq!(ask(14_000, &text), "complete 12000/12000 100%\n");
+    assert_eq!(ask(18_000, &text), "complete 12000/12000 100%\n");
+    assert_eq!(ask(18_001, &text), "lacking 20000 11999/12000 99%\n");
+}
+
+#[test]
+fn a_file_of_the_old_kind_has_no_update_period() {
+    let text = old_file(CASE_B_UPDATE, &[(0, 4000, 4)]);
+    for clock in [0, 14_000, 18_001, 20_001, WHOLE] {
+        assert_eq!(ask(clock, &text), ask(clock, &case_b_file()));
+    }
+}
+
+#[test]
 fn the_whole_period() {
     let text = file(CASE_A, &[(111, 40, 0), (ABSENT, 10, 0)]);
     assert_eq!(ask(WHOLE, &text), "lacking 100 50/100 50%\n");
@@ -66,6 +83,12 @@ fn the_clock_line() {
 fn kinds_on_the_clock_line() {
     for kind in (0..=255).filter(|kind| *kind != 4) {
         let line = format!("{:02x}{}", kind, &clock_line(0)[2..]);
+        assert_eq!(
+            answer((line + &case_b_file()).as_bytes()),
+            "refused 16 line 0\n"
+        );
+    }
+    for line in [head_line(CASE_B), old_head_line(CASE_B), s_line(0, 1, 0)] {
         assert_eq!(
             answer((line + &case_b_file()).as_bytes()),
             "refused 16 line 0\n"

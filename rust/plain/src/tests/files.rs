@@ -3,17 +3,55 @@
 use super::sequences::{random_head, tick_base};
 use super::support::*;
 use crate::timeline::Timeline;
+use crate::units::Millis;
 use crate::window::HeadFields;
 
+const GOOD: &[(u64, u32, i32)] = &[(0, 10, 4), (ABSENT, 20, 0)];
+
 fn good() -> String {
-    file(SHORT, &[(0, 10, 4), (ABSENT, 20, 0)])
+    file(SHORT, GOOD)
+}
+
+/// The same file behind each kind of head.
+fn good_ones() -> [String; 2] {
+    [good(), old_file(SHORT, GOOD)]
+}
+
+/// The same head of each kind.
+fn heads(head: HeadFields) -> [String; 2] {
+    [head_line(head), old_head_line(head)]
 }
 
 #[test]
 fn a_good_file() {
-    let lent = read_into(8, &good()).expect("an accepted file");
-    assert_eq!(lent.record, [1000, 0, 0, 1_000, 0, 0, 6, 0, 70, 0, 2]);
-    assert_eq!(lent.table, [0, 10, 5, 50, 20, 1, 0, 0]);
+    for text in good_ones() {
+        let lent = read_into(8, &text).expect("an accepted file");
+        assert_eq!(lent.record, [1000, 0, 0, 1_000, 0, 0, 0, 6, 0, 70, 0, 2]);
+        assert_eq!(lent.table, [0, 10, 5, 50, 20, 1, 0, 0]);
+    }
+}
+
+#[test]
+fn a_head_has_the_update_period_last() {
+    let head = HeadFields {
+        update: 0x174876e800,
+        ..SHORT
+    };
+    let text = file(head, GOOD);
+    assert_eq!(text[82..98], *"000000174876e800");
+    let lent = read_into(8, &text).expect("an accepted file");
+    assert_eq!(lent.record[UPDATE], Millis::MAX);
+    assert_eq!(lent.write(), Ok(text.into_bytes()));
+}
+
+#[test]
+fn an_update_period_over_its_limit_is_1_and_all_ones_are_not_absent() {
+    for update in [Millis::MAX + 1, 1 << 63, u64::MAX] {
+        let head = HeadFields { update, ..SHORT };
+        assert_eq!(refused(&file(head, GOOD)), (1, 1));
+        // The head is judged on its own line.
+        assert_eq!(refused(&head_line(head)), (1, 1));
+    }
 }
 
 #[test]
@@ -28,59 +66,68 @@ fn a_missing_line_has_the_number_it_would_have_had() {
 
 #[test]
 fn an_unended_line_is_16_whatever_it_holds() {
-    let text = good();
-    for length in 0..text.len() {
-        let line = text[..length].matches('\n').count() as u64 + 1;
-        assert_eq!(refused(&text[..length]), (16, line));
-    }
-}
-
-#[test]
-fn each_line_one_digit_or_two_too_short_or_too_long() {
-    let text = good();
-    let lines: Vec<&str> = text.lines().collect();
-    for at in 0..lines.len() {
-        let line = lines[at];
-        let shorter = [&line[..line.len() - 1], &line[..line.len() - 2], &line[..2]];
-        let longer = [format!("{}0", line), format!("{}00", line), line.repeat(2)];
-        let changed = shorter.iter().map(|text| text.to_string()).chain(longer);
-        for changed in changed {
-            let mut lines: Vec<String> = lines.iter().map(|line| line.to_string()).collect();
-            lines[at] = changed;
-            assert_eq!(refused(&(lines.join("\n") + "\n")), (16, at as u64 + 1));
+    for text in good_ones() {
+        for length in 0..text.len() {
+            let line = text[..length].matches('\n').count() as u64 + 1;
+            assert_eq!(refused(&text[..length]), (16, line));
         }
     }
 }
 
 #[test]
+fn each_line_one_digit_or_two_too_short_or_too_long() {
+    for text in good_ones() {
+        let lines: Vec<&str> = text.lines().collect();
+        for at in 0..lines.len() {
+            for changed in shorter_and_longer(lines[at]) {
+                let mut lines = lines.clone();
+                lines[at] = &changed;
+                assert_eq!(refused(&(lines.join("\n") + "\n")), (16, at as u64 + 1));
+            }
+        }
+    }
+}
+
+fn shorter_and_longer(line: &str) -> Vec<String> {
+    let shorter = [&line[..line.len() - 1], &line[..line.len() - 2], &line[..2]];
+    let longer = [format!("{}0", line), format!("{}00", line), line.repeat(2)];
+    let shorter = shorter.iter().map(|text| text.to_string());
+    shorter.chain(longer).collect()
+}
+
+#[test]
 fn bytes_that_are_no_lower_case_digits() {
-    let text = good().into_bytes();
-    for bad in *b"AFGg /:@`\r\t\0\x80\xff-+x" {
-        for at in 0..text.len() {
-            let mut bytes = text.clone();
-            bytes[at] = bad;
-            let line = text[..at].iter().filter(|byte| **byte == b'\n').count() as u64 + 1;
-            assert_eq!(Lent::anything(30).read(&bytes), Err((16, line)));
+    for text in good_ones().map(String::into_bytes) {
+        for bad in *b"AFGg /:@`\r\t\0\x80\xff-+x" {
+            for at in 0..text.len() {
+                let mut bytes = text.clone();
+                bytes[at] = bad;
+                let line = text[..at].iter().filter(|byte| **byte == b'\n').count() as u64 + 1;
+                assert_eq!(Lent::anything(30).read(&bytes), Err((16, line)));
+            }
         }
     }
 }
 
 #[test]
 fn carriage_returns_blanks_and_empty_lines() {
-    let text = good();
-    assert_eq!(refused(&text.replace('\n', "\r\n")), (16, 1));
-    assert_eq!(refused(&text.replace('\n', " \n")), (16, 1));
-    assert_eq!(refused(&text.replace('\n', "\n\n")), (16, 2));
-    assert_eq!(refused(&format!("\n{}", text)), (16, 1));
-    assert_eq!(refused(&format!(" {}", text)), (16, 1));
+    for text in good_ones() {
+        assert_eq!(refused(&text.replace('\n', "\r\n")), (16, 1));
+        assert_eq!(refused(&text.replace('\n', " \n")), (16, 1));
+        assert_eq!(refused(&text.replace('\n', "\n\n")), (16, 2));
+        assert_eq!(refused(&format!("\n{}", text)), (16, 1));
+        assert_eq!(refused(&format!(" {}", text)), (16, 1));
+    }
     assert_eq!(refused("\n"), (16, 1));
 }
 
 #[test]
 fn unknown_kinds() {
-    for kind in (0..=255).filter(|kind| !(1..=3).contains(kind)) {
+    let known = [1, 2, 3, 5];
+    for kind in (0..=255).filter(|kind| !known.contains(kind)) {
         let head = head_line(SHORT);
-        for line in [head_line(SHORT), s_line(0, 1, 0), end_line(0)] {
+        let [line, old] = heads(SHORT);
+        for line in [line, old, s_line(0, 1, 0), end_line(0)] {
             let unknown = format!("{:02x}{}", kind, &line[2..]);
             assert_eq!(refused(&unknown), (16, 1));
             assert_eq!(refused(&format!("{}{}", head, unknown)), (16, 2));
@@ -92,27 +139,62 @@ fn unknown_kinds() {
 
 #[test]
 fn a_length_goes_by_its_own_kind() {
-    // The digits of an S line under the head's kind, and the other way round.
-    let s_as_head = s_line(0, 1, 0).replacen("02", "01", 1);
-    let head_as_s = head_line(SHORT).replacen("01", "02", 1);
-    assert_eq!(refused(&s_as_head), (16, 1));
-    assert_eq!(refused(&(head_line(SHORT) + &head_as_s)), (16, 2));
+    // The digits of a line under the kind of another.
+    let lines = [
+        head_line(SHORT),
+        old_head_line(SHORT),
+        s_line(0, 1, 0),
+        end_line(1),
+    ];
+    for line in &lines {
+        for other in lines.iter().filter(|other| other[..2] != line[..2]) {
+            let mixed = format!("{}{}", &other[..2], &line[2..]);
+            assert_eq!(refused(&mixed), (16, 1));
+            assert_eq!(refused(&(head_line(SHORT) + &mixed)), (16, 2));
+        }
+    }
+}
+
+#[test]
+fn a_head_of_one_kind_with_the_length_of_the_other() {
+    let old_and_long = head_line(SHORT).replacen("05", "01", 1);
+    let new_and_short = old_head_line(SHORT).replacen("01", "05", 1);
+    assert_eq!((old_and_long.len(), new_and_short.len()), (99, 83));
+    for head in [old_and_long, new_and_short] {
+        assert_eq!(refused(&head), (16, 1));
+        // As a second head it is no frame either, which is judged before its place.
+        assert_eq!(refused(&(head_line(SHORT) + &head)), (16, 2));
+        assert_eq!(refused(&(old_head_line(SHORT) + &head)), (16, 2));
+    }
 }
 
 #[test]
 fn frames_out_of_order() {
-    let (head, s) = (head_line(SHORT), s_line(0, 1, 0));
-    assert_eq!(refused(&(s.clone() + &head)), (17, 1));
-    assert_eq!(refused(&(end_line(1) + &head)), (17, 1));
-    assert_eq!(refused(&(head.clone() + &head)), (17, 2));
-    assert_eq!(refused(&(head.clone() + &end_line(0))), (17, 2));
-    assert_eq!(refused(&(head.clone() + &end_line(1))), (17, 2));
-    assert_eq!(refused(&(head.clone() + &s + &head)), (17, 3));
+    let s = s_line(0, 1, 0);
+    for head in heads(SHORT) {
+        assert_eq!(refused(&(s.clone() + &head)), (17, 1));
+        assert_eq!(refused(&(end_line(1) + &head)), (17, 1));
+        assert_eq!(refused(&(head.clone() + &end_line(0))), (17, 2));
+        assert_eq!(refused(&(head + &end_line(1))), (17, 2));
+    }
+}
+
+#[test]
+fn a_second_head_of_either_kind() {
+    let s = s_line(0, 1, 0);
+    for head in heads(SHORT) {
+        for second in heads(SHORT) {
+            assert_eq!(refused(&format!("{}{}", head, second)), (17, 2));
+            assert_eq!(refused(&format!("{}{}{}", head, s, second)), (17, 3));
+        }
+    }
 }
 
 #[test]
 fn head_and_nothing() {
-    assert_eq!(refused(&head_line(SHORT)), (16, 2));
+    for head in heads(SHORT) {
+        assert_eq!(refused(&head), (16, 2));
+    }
 }
 
 #[test]
@@ -128,8 +210,11 @@ fn a_wrong_count_of_s_lines() {
 
 #[test]
 fn anything_after_the_end() {
-    for extra in ["0", "\n", "\0", &end_line(2), &head_line(SHORT), &good()] {
+    for extra in ["0", "\n", "\0", &end_line(2), &good()] {
         assert_eq!(refused(&(good() + extra)), (16, 5));
+    }
+    for extra in heads(SHORT) {
+        assert_eq!(refused(&(good() + &extra)), (16, 5));
     }
     assert_eq!(refused(&(good() + &s_line(ABSENT, 1, 0))), (16, 5));
 }
@@ -139,7 +224,9 @@ fn an_s_after_a_negative_r() {
     let closed = head_line(SHORT) + &s_line(0, 300, -1);
     assert_eq!(refused(&(closed.clone() + &s_line(ABSENT, 1, 0))), (17, 3));
     assert_eq!(refused(&(closed.clone() + &s_line(ABSENT, 1, -1))), (17, 3));
-    assert_eq!(refused(&(closed.clone() + &head_line(SHORT))), (17, 3));
+    for head in heads(SHORT) {
+        assert_eq!(refused(&(closed.clone() + &head)), (17, 3));
+    }
     let lent = read_into(3, &(closed + &end_line(1))).expect("an accepted file");
     assert_eq!(lent.table, [0, 300, 4]);
     assert_eq!(lent.record[NEXT_TICK], 1_200);
@@ -286,6 +373,28 @@ fn random_files_are_openings_plus_appends() {
 }
 
 #[test]
+fn a_file_of_the_old_kind_is_read_with_update_period_0() {
+    let mut with_another = 0;
+    for seed in 0..500 {
+        let mut generator = Generator::new(650_000 + seed);
+        let head = random_head(&mut generator);
+        let lines = random_s_lines(&mut generator, head);
+        let none = HeadFields { update: 0, ..head };
+        let old = read_into(9, &old_file(head, &lines));
+        assert_eq!(old, read_into(9, &file(none, &lines)));
+        let new = read_into(9, &file(head, &lines));
+        // An update period decides nothing in reading: it is kept, and that is all.
+        let without = new.map(|mut lent| {
+            with_another += usize::from(lent.record[UPDATE] != 0);
+            lent.record[UPDATE] = 0;
+            lent
+        });
+        assert_eq!(without, old);
+    }
+    assert!(with_another > 100, "{}", with_another);
+}
+
+#[test]
 fn a_negative_r_is_an_append_of_its_count() {
     let (mut accepted, mut refused) = (0, 0);
     for seed in 0..500 {
@@ -331,7 +440,7 @@ fn files_with_changed_bytes() {
     // Whatever the bytes, memory is zeroed on a refusal (which `Lent::read` asserts), the line
     // is one that the file has or the next, and what is accepted agrees. The period has an end,
     // and either the head is changed or the rest, so that no r can make a file store many
-    // references.
+    // references. The head is of either kind.
     let mut accepted = 0;
     for seed in 0..3_000 {
         let mut generator = Generator::new(800_000 + seed);
@@ -340,12 +449,15 @@ fn files_with_changed_bytes() {
             ..random_head(&mut generator)
         };
         let lines = random_s_lines(&mut generator, head);
-        let mut bytes = file(head, &lines).into_bytes();
+        let kind = generator.pick(&[file, old_file]);
+        let mut bytes = kind(head, &lines).into_bytes();
+        let feed = bytes.iter().position(|byte| *byte == b'\n');
+        let feed = feed.expect("an ended head") as u64;
         if generator.one_in(3) {
-            change_byte(&mut generator, &mut bytes, 0, 82);
+            change_byte(&mut generator, &mut bytes, 0, feed);
         } else {
-            change_byte(&mut generator, &mut bytes, 83, u64::MAX);
-            change_byte(&mut generator, &mut bytes, 83, u64::MAX);
+            change_byte(&mut generator, &mut bytes, feed + 1, u64::MAX);
+            change_byte(&mut generator, &mut bytes, feed + 1, u64::MAX);
         }
         let feeds = bytes.iter().filter(|byte| **byte == b'\n').count() as u64;
         let mut lent = Lent::anything(12);

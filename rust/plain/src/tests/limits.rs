@@ -26,12 +26,61 @@ fn open_takes_every_limit_at_once() {
         duration: Millis::MAX,
         depth: Millis::MAX,
         first_number: u32::MAX,
+        update: Millis::MAX,
     };
     let mut lent = Lent::opened(head, Tick::MAX, 30);
     assert_eq!(lent.trim(Millis::MAX), 0);
-    assert_eq!(lent.verdict(Millis::MAX), Ok([0; 5]));
+    // The update period alone fills the whole period.
     let ticks = 1_000_000_000_000_000;
-    assert_eq!(lent.verdict_whole(), Ok([2, ticks, 0, Tick::MAX, 0]));
+    let lacking = Ok([2, ticks, 0, Tick::MAX, 0]);
+    assert_eq!(lent.verdict(Millis::MAX), lacking);
+    assert_eq!(lent.verdict_whole(), lacking);
+    let none = HeadFields { update: 0, ..head };
+    let lent = Lent::opened(none, Tick::MAX, 30);
+    assert_eq!(lent.verdict(Millis::MAX), Ok([0; 5]));
+}
+
+#[test]
+fn clock_plus_update_period_is_not_cut() {
+    let head = HeadFields {
+        update: Millis::MAX,
+        ..OPEN_ENDED
+    };
+    let lent = Lent::opened(head, 0, 30);
+    let twice = 2 * Millis::MAX;
+    assert_eq!(lent.verdict(Millis::MAX), Ok([2, twice, 0, 0, 0]));
+    assert_eq!(lent.verdict(Millis::MAX + 1), Err(10));
+    assert_eq!(lent.covered_edge(), Ok([0, 0]));
+    // All of it in one reference: the greatest clock of all is covered.
+    let wide = HeadFields {
+        timescale: 10,
+        ..head
+    };
+    let mut lent = Lent::opened(wide, 0, 30);
+    assert_eq!(lent.join(2_000_000_000, 1), 0);
+    let ticks = 2_000_000_000;
+    assert_eq!(lent.verdict(Millis::MAX), Ok([1, ticks, ticks, 0, 100]));
+    assert_eq!(lent.covered_edge(), Ok([1, Millis::MAX]));
+}
+
+#[test]
+fn an_update_period_past_a_known_end() {
+    // A period of 1,000 ms; the window ends with it however far the update period reaches.
+    for update in [500, 501, Millis::MAX] {
+        let head = HeadFields { update, ..SHORT };
+        let mut lent = Lent::opened(head, 0, 30);
+        assert_eq!(lent.join(999, 1), 0);
+        assert_eq!(lent.verdict(500), Ok([2, 1_000, 999, 999, 99]));
+        assert_eq!(lent.covered_edge(), Ok(edge_before(999, update)));
+        assert_eq!(lent.join(5, 1), 0);
+        assert_eq!(lent.verdict(500), Ok([1, 1_000, 1_000, 0, 100]));
+        assert_eq!(lent.covered_edge(), Ok([1, Millis::MAX]));
+    }
+}
+
+/// The covered edge where the next tick stands at so many milliseconds, before the period end.
+fn edge_before(millis: u64, update: u64) -> [u64; 2] {
+    millis.checked_sub(update).map_or([0, 0], |edge| [1, edge])
 }
 
 #[test]

@@ -17,6 +17,7 @@ pub struct Literal {
     pub duration: i128,
     pub depth: i128,
     pub first_number: i128,
+    pub update: i128,
 }
 
 pub fn overlap(one: Stretch, other: Stretch) -> bool {
@@ -32,6 +33,7 @@ impl Literal {
             duration: i128::from(head.duration),
             depth: i128::from(head.depth),
             first_number: i128::from(head.first_number),
+            update: i128::from(head.update),
         }
     }
 
@@ -61,7 +63,7 @@ impl Literal {
         }
         (
             from * self.timescale,
-            self.before_end(clock * self.timescale),
+            self.before_end((clock + self.update) * self.timescale),
         )
     }
 

@@ -103,6 +103,8 @@ fn a_line_is_17_before_its_fields() {
     let head = head_line(SHORT);
     let bad_head = head_line(NO_TIMESCALE);
     assert_eq!(refused(&format!("{}{}", head, bad_head)), (17, 2));
+    let bad_update = head_line(FAR_UPDATE);
+    assert_eq!(refused(&format!("{}{}", head, bad_update)), (17, 2));
     assert_eq!(refused(&s_line(Tick::MAX + 1, 0, 0)), (17, 1));
     let closed = head + &s_line(0, 1, -1);
     assert_eq!(refused(&(closed.clone() + &s_line(0, 0, 0))), (17, 3));

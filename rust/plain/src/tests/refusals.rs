@@ -30,13 +30,15 @@ fn appends_refuse(append: impl Fn(&mut Lent, u64, u32, u32) -> u32) {
 
 #[test]
 fn open() {
-    let over: [fn(&mut HeadFields); 6] = [
+    let over: [fn(&mut HeadFields); 8] = [
         |head| head.timescale = 0,
         |head| head.timescale = u64::from(Timescale::MAX) + 1,
         |head| head.offset = Tick::MAX + 1,
         |head| head.start = Millis::MAX + 1,
         |head| head.duration = Millis::MAX + 1,
         |head| head.depth = Millis::MAX + 1,
+        |head| head.update = Millis::MAX + 1,
+        |head| head.update = u64::MAX,
     ];
     for change in over {
         let mut head = OPEN_ENDED;
@@ -163,10 +165,10 @@ fn write() {
     assert_eq!(damaged().write(), Err(2));
     assert_eq!(Lent::opened(CASE_B, 0, 30).write(), Err(12));
     assert_eq!(case_b().write_into(0), Err(15));
-    assert_eq!(case_b().write_into(83 + 35 + 10), Err(15));
+    assert_eq!(case_b().write_into(99 + 35 + 10), Err(15));
     assert_eq!(
-        case_b().write_into(83 + 35 + 11).map(|file| file.len()),
-        Ok(129)
+        case_b().write_into(99 + 35 + 11).map(|file| file.len()),
+        Ok(145)
     );
 }
 
@@ -181,13 +183,14 @@ fn read() {
 
 #[test]
 fn a_record_of_another_length_is_2_and_changes_nothing() {
-    for words in [0, 1, 10, 12, 22] {
+    for words in [0, 1, 11, 13, 24] {
         let mut record = vec![7; words];
         let mut table = vec![8; 6];
         let mut out = [9; 5];
         let mut signed = [9; 3];
         let mut bytes = [b'#'; 200];
-        assert_eq!(face::open(&mut record, &mut table, 0, 0, 0, 0, 0, 0, 0), 2);
+        let opened = face::open(&mut record, &mut table, 0, 0, 0, 0, 0, 0, 0, 0);
+        assert_eq!(opened, 2);
         assert_eq!(face::append(&mut record, &mut table, 0, 0, 0), 2);
         assert_eq!(face::append_stamp(&mut record, &mut table, 0, 0, 0), 2);
         assert_eq!(face::trim(&mut record, &mut table, u64::MAX), 2);

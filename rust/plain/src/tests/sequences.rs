@@ -22,6 +22,7 @@ pub fn random_head(generator: &mut Generator) -> HeadFields {
         duration: generator.pick(&[0, 0, 1, 33, 150, 301, 700]),
         depth: generator.pick(&[0, 0, 1, 20, 77, 200]),
         first_number: generator.pick(&[0, 1, 1000, u32::MAX - 12]),
+        update: generator.pick(&[0, 0, 1, 15, 90, 333, 1_000]),
     }
 }
 
@@ -118,6 +119,7 @@ impl Model {
             head.duration,
             head.depth,
             u64::from(head.first_number),
+            head.update,
             self.accepted.len() as u64,
             self.dropped() as u64,
             self.next_tick as u64,

@@ -2,7 +2,8 @@
 
 use super::literal::Ticks;
 use crate::face;
-use crate::units::Tick;
+use crate::record::RECORD_WORDS;
+use crate::units::{Millis, Tick};
 use crate::window::HeadFields;
 
 /// A small generator of evenly spread 64-bit numbers (splitmix), the same for the same seed.
@@ -54,17 +55,18 @@ pub const START: usize = 2;
 pub const DURATION: usize = 3;
 pub const DEPTH: usize = 4;
 pub const FIRST_NUMBER: usize = 5;
-pub const ACCEPTED: usize = 6;
-pub const DROPPED: usize = 7;
-pub const NEXT_TICK: usize = 8;
-pub const GREATEST_CLOCK: usize = 9;
-pub const RUNS_USED: usize = 10;
+pub const UPDATE: usize = 6;
+pub const ACCEPTED: usize = 7;
+pub const DROPPED: usize = 8;
+pub const NEXT_TICK: usize = 9;
+pub const GREATEST_CLOCK: usize = 10;
+pub const RUNS_USED: usize = 11;
 
 impl Lent {
     /// Memory that holds anything.
     pub fn anything(table_words: usize) -> Self {
         Lent {
-            record: vec![77; 11],
+            record: vec![77; RECORD_WORDS],
             table: vec![99; table_words],
         }
     }
@@ -87,12 +89,13 @@ impl Lent {
             head.duration,
             head.depth,
             head.first_number,
+            head.update,
             first_tick,
         );
         if answer == 0 {
             assert!(self.table.iter().all(|word| *word == 0));
         } else {
-            assert_eq!(self.record, vec![0; 11]);
+            assert_eq!(self.record, vec![0; RECORD_WORDS]);
             assert_eq!(self.table, before.table);
         }
         answer
@@ -203,7 +206,7 @@ impl Lent {
             assert_eq!(out, [0]);
             return Ok(());
         }
-        assert_eq!(self.record, vec![0; 11]);
+        assert_eq!(self.record, vec![0; RECORD_WORDS]);
         assert!(self.table.iter().all(|word| *word == 0));
         Err((answer, out[0]))
     }
@@ -224,9 +227,20 @@ where
     }
 }
 
+/// A head line of the kind that is written.
 pub fn head_line(head: HeadFields) -> String {
+    format!("05{}{:016x}\n", old_fields(head), head.update)
+}
+
+/// A head line of the old kind, which has no update period.
+pub fn old_head_line(head: HeadFields) -> String {
+    format!("01{}\n", old_fields(head))
+}
+
+/// The fields that both kinds have.
+fn old_fields(head: HeadFields) -> String {
     format!(
-        "01{:08x}{:016x}{:016x}{:016x}{:016x}{:08x}\n",
+        "{:08x}{:016x}{:016x}{:016x}{:016x}{:08x}",
         head.timescale, head.offset, head.start, head.duration, head.depth, head.first_number
     )
 }
@@ -251,7 +265,16 @@ pub const WHOLE: u64 = u64::MAX;
 
 /// A file from its head and its S lines.
 pub fn file(head: HeadFields, s_lines: &[(u64, u32, i32)]) -> String {
-    let mut text = head_line(head);
+    file_behind(head_line(head), s_lines)
+}
+
+/// A file whose head line is of the old kind.
+pub fn old_file(head: HeadFields, s_lines: &[(u64, u32, i32)]) -> String {
+    file_behind(old_head_line(head), s_lines)
+}
+
+fn file_behind(head_line: String, s_lines: &[(u64, u32, i32)]) -> String {
+    let mut text = head_line;
     for (t, d, r) in s_lines {
         text += &s_line(*t, *d, *r);
     }
@@ -274,6 +297,8 @@ pub fn refused(text: &str) -> (u32, u64) {
 pub fn refused_files() -> Vec<(String, (u32, u64))> {
     vec![
         (file(NO_TIMESCALE, &[(0, 1, 0)]), (1, 1)),
+        (old_file(NO_TIMESCALE, &[(0, 1, 0)]), (1, 1)),
+        (file(FAR_UPDATE, &[(0, 1, 0)]), (1, 1)),
         (file(SHORT, &[(Tick::MAX + 1, 1, 0)]), (1, 2)),
         (file(SHORT, &[(0, 0, 0)]), (3, 2)),
         (file(SHORT, &[(0, 1, 0), (2, 1, 0)]), (4, 3)),
@@ -296,6 +321,7 @@ pub const OPEN_ENDED: HeadFields = HeadFields {
     duration: 0,
     depth: 0,
     first_number: 0,
+    update: 0,
 };
 
 /// The same with a period of 1,000 ms.
@@ -316,6 +342,12 @@ pub const NO_TIMESCALE: HeadFields = HeadFields {
     ..OPEN_ENDED
 };
 
+/// Another one.
+pub const FAR_UPDATE: HeadFields = HeadFields {
+    update: Millis::MAX + 1,
+    ..OPEN_ENDED
+};
+
 pub const CASE_A: HeadFields = HeadFields {
     timescale: 10,
     offset: 100,
@@ -328,6 +360,12 @@ pub const CASE_B: HeadFields = HeadFields {
     depth: 10_000,
     first_number: 1,
     ..OPEN_ENDED
+};
+
+/// Case B whose window reaches two seconds past the clock.
+pub const CASE_B_UPDATE: HeadFields = HeadFields {
+    update: 2_000,
+    ..CASE_B
 };
 
 pub const CASE_D: HeadFields = HeadFields {

@@ -13,6 +13,8 @@ edge-of-spec =
     (λ c κs. search needs)
     (λ c κs. search needs)
     (λ c κs. search needs)
+    (λ c κs. search needs)
+    (λ c. search needs)
     (λ c. search needs)
     (λ c. search (needs, edge-never))
     (λ c. search needs)

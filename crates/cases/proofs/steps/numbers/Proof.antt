@@ -7,7 +7,7 @@ use Rattle.cases.proofs.steps.numbers.Statement.{statement}
 use Rattle.cases.proofs.steps.numbers.Tie as tie
 
 abbrev Inv-loop : tie.InvT-loop
-Inv-loop line numbers₀ place₀ i₀ numbers place i = (place < 8) × (i ≤ length line) × (length numbers ≡ 8)
+Inv-loop line numbers₀ place₀ i₀ numbers place i = (place < 9) × (i ≤ length line) × (length numbers ≡ 9)
 
 abbrev μ-loop : tie.MeasureT-loop
 μ-loop line numbers₀ place₀ i₀ numbers place i = length line - i

@@ -3,11 +3,12 @@ use mathlib.Core.Path.{_≡_}
 use lib.ListN.{length}
 use lib.Seq.{length-take-le}
 use borrow.Author.Needs.{needs}
+use Rattle.file.specs.SoFar.{mostBytes}
 use Rattle.file.proofs.SoFar.{len-within, more-is}
 use Rattle.file.proofs.LineSoFar.more.Statement.{statement}
 use Rattle.file.proofs.LineSoFar.more.Tie as tie
 
-line-long : (s : tie.Start) → length (s .args .self .bytes) ≡ 83
+line-long : (s : tie.Start) → length (s .args .self .bytes) ≡ mostBytes
 line-long s = search needs
 
 returns : tie.Need-returns

@@ -3,12 +3,13 @@ use mathlib.Core.Path.{_≡_}
 use lib.ListN.{length}
 use lib.Seq.{length-take-le}
 use borrow.Author.Needs.{needs}
+use Rattle.file.specs.SoFar.{mostBytes}
 use Rattle.file.proofs.SoFar.{len-within}
 use Rattle.file.proofs.Turning.{first-judged}
 use Rattle.file.proofs.feeding.take_so_far.Statement.{statement}
 use Rattle.file.proofs.feeding.take_so_far.Tie as tie
 
-line-long : (s : tie.Start) → length (s .args .line .bytes) ≡ 83
+line-long : (s : tie.Start) → length (s .args .line .bytes) ≡ mostBytes
 line-long s = search needs
 
 returns : tie.Need-returns

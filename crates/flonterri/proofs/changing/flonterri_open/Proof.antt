@@ -26,7 +26,7 @@ returns-2 c =
     let a = start .args in
     let tick : Tick = record { 0 = a .first-tick } in
     let ts = a .table .now in
-    changes-by (a .«record» .now) ts _ (test .before .wrong-record .ensures) (λ head. openAnswer head tick) (λ head. openTable head tick ts) (test .if1 .left) _ (headWith (a .timescale) (a .offset) (a .start) (a .duration) (a .depth) (a .first-number)) refl _ _
+    changes-by (a .«record» .now) ts _ (test .before .wrong-record .ensures) (λ head. openAnswer head tick) (λ head. openTable head tick ts) (test .if1 .left) _ (headWith (a .timescale) (a .offset) (a .start) (a .duration) (a .depth) (a .first-number) (a .«update»)) refl _ _
     (call .open .ensures .0) (call .open .ensures .1) _ _ (gave .give-back .ensures .0) (gave .give-back .ensures .1)
 
 pub flonterri-open-spec : {M : Type 1} → statement M

@@ -7,7 +7,7 @@ use Rattle.frames.proofs.kinds.read_head.Tie as tie
 
 returns : tie.Need-returns
 unfolding frameAs fieldValues
-returns c = rw (c .before .read-fields .ensures)
+returns c = rw (c .before .before .before .read-fields .ensures) at (c .head-from .ensures)
 
 pub read-head-spec : {M : Type 1} → statement M
 read-head-spec =
@@ -18,8 +18,5 @@ read-head-spec =
     (λ c κs. search needs)
     (λ c. search needs)
     (λ c. search needs)
-    (λ c. search needs)
-    (λ c. search needs)
-    (λ c. search needs)
-    (λ c. search needs)
+    (λ c κs. search needs)
     returns)

@@ -8,9 +8,13 @@ pub high-spec : {M : Type 1} → statement M
 high-spec =
     tie.close
     (tie.spec
+    (λ c κs. search needs)
+    (λ c κs. search needs)
+    (λ c κs. search needs)
+    (λ c. search needs)
     (λ c. search (needs, high-early))
     (λ c. search needs)
-    (λ c κs. search needs)
+    (λ c. search needs)
     (λ c. search (needs, high-open))
     (λ c κs. search needs)
     (λ c. search (needs, high-end))

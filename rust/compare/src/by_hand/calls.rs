@@ -1,98 +1,14 @@
-//! The cases that the paper gives with their answers: "By hand", the worked file, the window of
-//! "Window, needed, spent", and "Errors we expect someone to make". Each goes through both sides
-//! and through the program, and is held to what the paper says.
+//! The paper's cases of calls.
 
 use flonterri::words::word;
 
+use super::said::{accepted, out, refused, Said};
+use super::{old_worked_file, CASE_A, CASE_B, CASE_B_UPDATE, CASE_C, CASE_D, WORKED_FILE};
 use crate::face::Faces;
-use crate::inputs::{hold, on_input, plain_answer, Programs};
 use crate::opening::Opening;
 use crate::sequence::compare_step;
-use crate::step::{Answer, Call, Lent, Step};
-use crate::text::{bytes_of, clock_line, Line, ALL_ONES};
-
-/// What the paper says of a call.
-#[derive(Clone, Debug, Default)]
-struct Said {
-    number: u32,
-    out: Option<Vec<u64>>,
-    record: Vec<(usize, u64)>,
-    front: Option<Vec<u64>>,
-    written: Option<Vec<u8>>,
-}
-
-/// Accepted.
-fn accepted() -> Said {
-    Said::default()
-}
-
-/// Refused with a number.
-fn refused(number: u32) -> Said {
-    Said {
-        number,
-        ..Said::default()
-    }
-}
-
-/// Accepted, with these words in `out`.
-fn out(words: &[u64]) -> Said {
-    Said {
-        out: Some(words.to_vec()),
-        ..Said::default()
-    }
-}
-
-impl Said {
-    /// And this word of the record.
-    fn record(mut self, at: usize, word: u64) -> Said {
-        self.record.push((at, word));
-        self
-    }
-
-    /// And these words at the front of the table, with zeros behind.
-    fn front(mut self, words: &[u64]) -> Said {
-        self.front = Some(words.to_vec());
-        self
-    }
-
-    /// And this file written.
-    fn written(mut self, file: &[u8]) -> Said {
-        self.written = Some(file.to_vec());
-        self
-    }
-
-    /// What an answer has otherwise; none where it is as the paper says.
-    fn differs(&self, answer: &Answer) -> Option<String> {
-        if answer.number != self.number {
-            return Some(format!("number {}, not {}", answer.number, self.number));
-        }
-        if let Some(out) = &self.out {
-            if *out != answer.out {
-                return Some(format!("out {:?}, not {:?}", answer.out, out));
-            }
-        }
-        for (at, word) in &self.record {
-            if answer.record[*at] != *word {
-                let found = answer.record[*at];
-                return Some(format!("record word {}: {}, not {}", at, found, word));
-            }
-        }
-        if let Some(front) = &self.front {
-            let mut table = front.clone();
-            table.resize(answer.table.len(), 0);
-            if answer.table != table {
-                return Some(format!("table {:?}, not {:?}", answer.table, table));
-            }
-        }
-        match &self.written {
-            Some(file) if !answer.bytes.starts_with(file) => Some(format!(
-                "wrote {:?}",
-                String::from_utf8_lossy(&answer.bytes)
-            )),
-            _ => None,
-        }
-    }
-}
+use crate::step::{Call, Lent, Step};
+use crate::text::{bytes_of, Line};
 
 /// A case: an opening, and calls with what the paper says of each.
 struct Case {
@@ -103,39 +19,6 @@ struct Case {
 
 /// Words of the table in every case.
 const TABLE_WORDS: usize = 30;
-
-/// The file of case B after its trim at 18,000.
-const WORKED_FILE: &str = "\
-01000003e8000000000000000000000000000000000000000000000000000000000000271000000003
-020000000000001f4000000fa000000002
-0300000001
-";
-
-const CASE_A: Opening = Opening {
-    timescale: 10,
-    offset: 100,
-    start: 30_000,
-    duration: 10_000,
-    first_tick: 111,
-    ..Opening::OPEN_ENDED
-};
-
-const CASE_B: Opening = Opening {
-    depth: 10_000,
-    first_number: 1,
-    ..Opening::OPEN_ENDED
-};
-
-const CASE_C: Opening = Opening {
-    first_tick: 4_294_970_000,
-    ..Opening::OPEN_ENDED
-};
-
-const CASE_D: Opening = Opening {
-    timescale: 3,
-    duration: 500,
-    ..Opening::OPEN_ENDED
-};
 
 fn append(start: u64, duration: u32, count: u32) -> Call {
     Call::Append {
@@ -195,42 +78,132 @@ fn case_b_verdicts() -> Case {
     }
 }
 
-/// Case B with its trims, and the worked file.
-fn case_b_trims() -> Case {
+/// The five references of case B, and its trims, which no update period moves.
+fn trims_of_case_b() -> Vec<(Call, Said)> {
     let dropped = |many: u64| {
         accepted()
             .record(word::DROPPED, many)
             .record(word::ACCEPTED, 5)
             .front(&[many * 4000, 4000, 5 - many])
     };
+    vec![
+        (append(0, 4000, 5), accepted()),
+        (trim(13_999), dropped(0)),
+        (trim(14_000), dropped(1)),
+        (trim(18_000), dropped(2)),
+        (trim(14_000), dropped(2)),
+        (verdict(17_999), refused(11)),
+    ]
+}
+
+/// Case B with its trims, and the worked file, written and read with a head of each kind.
+fn case_b_trims() -> Case {
     let length = WORKED_FILE.len();
+    let read = |bytes: Vec<u8>| {
+        let said = out(&[0])
+            .front(&[8000, 4000, 3])
+            .record(word::FIRST_NUMBER, 3)
+            .record(word::UPDATE_PERIOD, 0)
+            .record(word::ACCEPTED, 3)
+            .record(word::NEXT_TICK, 20_000);
+        (Call::Read { bytes }, said)
+    };
+    let written = || out(&[145]).written(WORKED_FILE.as_bytes());
+    let mut calls = trims_of_case_b();
+    calls.extend([
+        (Call::Write { room: length }, written()),
+        (Call::Write { room: length - 1 }, refused(15)),
+        read(WORKED_FILE.into()),
+        read(old_worked_file()),
+        (Call::Write { room: length }, written()),
+    ]);
     Case {
         name: "B with trims, and the worked file",
         opening: CASE_B,
+        calls,
+    }
+}
+
+/// Case B with an update period of 2,000: verdicts without trims, then the trims, and the file.
+fn case_b_update() -> Vec<Case> {
+    let written = WORKED_FILE.replace("0000000000000000\n", "00000000000007d0\n");
+    let complete = out(&[1, 12_000, 12_000, 0, 100]);
+    let mut trims = trims_of_case_b();
+    trims.extend([
+        (verdict(18_000), complete.clone()),
+        (
+            Call::Write { room: 200 },
+            out(&[145]).written(written.as_bytes()),
+        ),
+        (
+            Call::Read {
+                bytes: written.into(),
+            },
+            out(&[0]).record(word::UPDATE_PERIOD, 2_000),
+        ),
+    ]);
+    let verdicts = vec![
+        (append(0, 4000, 5), accepted()),
+        (verdict(0), out(&[1, 2_000, 2_000, 0, 100])),
+        (verdict(14_000), complete.clone()),
+        (verdict(18_000), complete),
+        (verdict(18_001), out(&[2, 12_000, 11_999, 20_000, 99])),
+        (Call::CoveredEdge, out(&[1, 18_000])),
+        (
+            Call::Availability { number: 3 },
+            out(&[1, 12_000_000, 26_000_000]),
+        ),
+    ];
+    let case = |name, calls| Case {
+        name,
+        opening: CASE_B_UPDATE,
+        calls,
+    };
+    vec![
+        case("B with update period 2,000", verdicts),
+        case("B with update period 2,000 and trims", trims),
+    ]
+}
+
+/// A clock before the period start, and an update period that reaches past it: five ticks.
+fn window_before_the_period() -> Case {
+    Case {
+        name: "start 10, clock 0, update period 15",
+        opening: Opening {
+            start: 10,
+            update: 15,
+            ..Opening::OPEN_ENDED
+        },
         calls: vec![
-            (append(0, 4000, 5), accepted()),
-            (trim(13_999), dropped(0)),
-            (trim(14_000), dropped(1)),
-            (trim(18_000), dropped(2)),
-            (trim(14_000), dropped(2)),
-            (verdict(17_999), refused(11)),
-            (
-                Call::Write { room: length },
-                out(&[length as u64]).written(WORKED_FILE.as_bytes()),
-            ),
-            (Call::Write { room: length - 1 }, refused(15)),
-            (
-                Call::Read {
-                    bytes: WORKED_FILE.into(),
-                },
-                out(&[0])
-                    .front(&[8000, 4000, 3])
-                    .record(word::FIRST_NUMBER, 3)
-                    .record(word::ACCEPTED, 3)
-                    .record(word::NEXT_TICK, 20_000),
-            ),
+            (verdict(0), out(&[2, 5, 0, 0, 0])),
+            (append(0, 5, 1), accepted()),
+            (verdict(0), out(&[1, 5, 5, 0, 100])),
+            (Call::CoveredEdge, out(&[1, 0])),
         ],
     }
+}
+
+/// Clock and update period at their limits: the sum is neither refused nor cut, but by a known end.
+fn update_at_its_limit() -> Vec<Case> {
+    let opening = Opening {
+        update: 100_000_000_000,
+        ..Opening::OPEN_ENDED
+    };
+    let ended = Opening {
+        duration: 1_000,
+        ..opening
+    };
+    let asked = |name, opening, needed| Case {
+        name,
+        opening,
+        calls: vec![(verdict(100_000_000_000), out(&[2, needed, 0, 0, 0]))],
+    };
+    let without_end = "clock and update period at their limits";
+    let with_end = "clock and update period at their limits, with a known end";
+    vec![
+        asked(without_end, opening, 200_000_000_000),
+        asked(with_end, ended, 1_000),
+    ]
 }
 
 /// Case C, a case for each stamp.
@@ -385,11 +358,14 @@ fn cases() -> Vec<Case> {
         case_b_trims(),
         case_d(),
         half_ticks(),
+        window_before_the_period(),
         judged_by_its_end(),
         spent_with_the_period(),
         emptied_table(),
     ];
     cases.extend(cases_c());
+    cases.extend(case_b_update());
+    cases.extend(update_at_its_limit());
     cases.extend(cut_by_the_period_end());
     cases
 }
@@ -414,60 +390,4 @@ pub fn judge_calls(faces: &Faces) -> Result<u64, String> {
         }
     }
     Ok(calls)
-}
-
-/// Inputs of the program with the line that the paper has for each.
-fn program_cases() -> Vec<(Vec<u8>, &'static str)> {
-    let case_b = [
-        Line::Head(CASE_B),
-        Line::S {
-            t: 0,
-            d: 4000,
-            r: 4,
-        },
-        Line::End(1),
-    ];
-    let case_d = |r| {
-        let s = Line::S { t: 0, d: 1, r };
-        [Line::Head(CASE_D), s, Line::End(1)]
-    };
-    let asked = |clock: u64, lines: &[Line]| [clock_line(clock), bytes_of(lines)].concat();
-    let worked = |clock: u64| [&clock_line(clock), WORKED_FILE.as_bytes()].concat();
-    let upper = String::from_utf8_lossy(&asked(0, &case_b)).replace("fa0", "FA0");
-    vec![
-        (asked(0, &case_b), "nothing needed"),
-        (asked(14_000, &case_b), "complete 10000/10000 100%"),
-        (asked(20_001, &case_b), "lacking 20000 9999/10000 99%"),
-        (upper.into_bytes(), "refused 16 line 2"),
-        (asked(ALL_ONES, &case_b), "refused 19 line 0"),
-        (asked(ALL_ONES, &case_d(0)), "lacking 1 1/2 50%"),
-        (asked(ALL_ONES, &case_d(-1)), "complete 2/2 100%"),
-        (asked(ALL_ONES, &case_d(2)), "refused 8 line 2"),
-        (worked(18_000), "complete 10000/10000 100%"),
-        (worked(20_001), "lacking 20000 9999/10000 99%"),
-        (worked(100_000_000_001), "refused 10 line 0"),
-        (WORKED_FILE.into(), "refused 16 line 0"),
-        (Vec::new(), "refused 16 line 0"),
-        (asked(0, &[]), "refused 16 line 1"),
-        (asked(0, &[Line::Clock(0)]), "refused 16 line 1"),
-        (asked(0, &[Line::End(0)]), "refused 17 line 1"),
-    ]
-}
-
-/// Holds the program and the plain one to the paper's lines, and answers how many inputs there
-/// were.
-pub fn judge_inputs(programs: &Programs) -> Result<u64, String> {
-    let by_hand = |failure| format!("by hand: {}", failure);
-    let mut inputs = 0;
-    for (input, line) in program_cases() {
-        let answer = format!("{}\n", line);
-        let plain = plain_answer(&input);
-        if plain != answer {
-            let what = format!("plain answers {:?} and not {:?}", plain, answer);
-            return Err(by_hand(on_input(&what, &input)));
-        }
-        hold(&programs.desk, &input, &answer).map_err(by_hand)?;
-        inputs += 1;
-    }
-    Ok(inputs)
 }
