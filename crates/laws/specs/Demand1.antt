@@ -82,7 +82,7 @@ pub record Finishes (reader : Reader) (before : List ℕ) (x : ReadAnswer) (afte
 
 -- ---- C: lengths first
 
--- 2: the record is not of 11 words
+-- 2: the record is not of 12 words
 abbrev pub recordRows : List ℕ → List (Bool × ℕ) → List (Bool × ℕ)
 recordRows ws rows = (not (eqb (length ws) recordWords), 2) ∷ rows
 
@@ -94,7 +94,7 @@ lengthRows ws out size rows = recordRows ws ((not (eqb (length out) size), 15) �
 abbrev pub ChangesFromC : ℕ → List ℕ → List ℕ → List ℕ → List ℕ → List (Bool × ℕ) → Type 0
 ChangesFromC n ws ts ws-after ts-after rows = GivesNumber n (recordRows ws rows) ((ws-after ≡ ws) × (ts-after ≡ ts))
 
--- an opening: a record of another length stays as it came, and one of 11 words is zeroed where a field is over its limit
+-- an opening: a record of another length stays as it came, and one of 12 words is zeroed where a field is over its limit
 pub record OpensFromC (n : ℕ) (ws ts : List ℕ) (h : Head) (tick : ℕ) (ws-after ts-after : List ℕ) : Type 0 where
   pub number : n ≡ lowest (recordRows ws (openRows h (record { 0 = tick })))
   pub length : n ≡ 2 → (ws-after ≡ ws) × (ts-after ≡ ts)
