@@ -3,18 +3,16 @@ use mathlib.Core.Path.{_≡_, sym, ap, subst, subst⁻¹, _∙_}
 use mathlib.Core.List.{List, [], _∷_, _++_, append-assoc}
 use Prim.Native.Nat.{ℕ, _+_, _<_}
 use lib.ListN.{drop}
-use Rattle.window.specs.declared.HeadFields.{HeadFields}
 use Rattle.frames.specs.Fields.{fieldDigits}
 use Rattle.frames.specs.Frames.{lineWidths, lineLength, endedLength, headKind, updateValues, updateIn, fieldsIn, kindOf, valuesOf, lineOf, endedLine, Written}
 use Rattle.frames.specs.declared.HeadLine.{HeadLine}
 use Rattle.frames.specs.declared.UpdateField.{UpdateField}
-use Rattle.frames.specs.declared.UpdateField.the-variants.{Absent, Of}
 use Rattle.frames.specs.declared.Frame.{Frame}
 use Rattle.frames.specs.declared.Frame.the-variants.{Head}
 
 -- what the writer of fields leaves for a kind and its values
 abbrev pub Put : ℕ → List ℕ → List ℕ → List ℕ → ℕ → Type 0
-Put k vs before after n = (n ≡ lineLength k + 1) × (after ≡ fieldDigits (lineWidths k) (k ∷ vs) ++ 10 ∷ drop (lineLength k + 1) before)
+Put k vs before after n = (n ≡ endedLength k) × (after ≡ fieldDigits (lineWidths k) (k ∷ vs) ++ 10 ∷ drop (endedLength k) before)
 
 pub line-put : (f : Frame) (before after : List ℕ) (n : ℕ) → Put (kindOf f) (valuesOf f) before after n → Written f before after n
 unfolding endedLine lineOf

@@ -1,10 +1,10 @@
 -- The old answers stand: the window at an update period of 0, the frames of lines that are no head with one, and what is written behind the head line.
 use mathlib.Core.Path.{_≡_, refl, sym, ap, ap₂, subst⁻¹, _∙_}
 use mathlib.Core.Bool.{Bool, true, false, cond, _&&_}
-use mathlib.Core.List.{List, [], _∷_, _++_, map, append-assoc}
-use Prim.Native.Nat.{ℕ, zero, suc, _+_, _*_, _≤_}
+use mathlib.Core.List.{List, [], _∷_, _++_, map}
+use Prim.Native.Nat.{ℕ, zero, suc, _+_}
 use native.Mathlib.Omega.{arith}
-use borrow.Author.Tests.{eqb-true, ne-eqb, eqb-false, le-leb, lt-leb, leb-true, leb-false}
+use borrow.Author.Tests.{eqb-true, le-leb, lt-leb, leb-true, leb-false}
 use lib.Dec.{eqb, leb}
 use lib.IntN.{pos}
 use lib.Signed.{leZ}
@@ -17,9 +17,9 @@ use Rattle.hex.specs.Digits as hex
 use Rattle.hex.specs.Digits.{areDigits, digitsOf, digitOf}
 use Rattle.window.specs.declared.Head.{Head}
 use Rattle.window.specs.declared.Reference.{Reference}
-use Rattle.window.specs.Limits.{headHeld, fieldsOf}
+use Rattle.window.specs.Limits.{headHeld}
 use Rattle.window.specs.Place.{place, moment, cutToEnd}
-use Rattle.window.specs.Window.{Stretch, overlaps, lowEdge, highEdge, windowAt, cutSpan, needed, Spent}
+use Rattle.window.specs.Window.{overlaps, lowEdge, highEdge, windowAt, cutSpan, needed, Spent}
 use Rattle.runs.specs.Encoding.{encode, runsFor}
 use Rattle.agreement.specs.declared.Record.{Record}
 use Rattle.agreement.specs.declared.refusal.Refusal.the-variants.{Disagreement, ClockLimit, EarlierClock, NothingKept, ShortOutput}

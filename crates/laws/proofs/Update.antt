@@ -1,23 +1,19 @@
 -- The update period: it moves the upper edge and nothing else; and the cases by hand.
 use mathlib.Core.Path.{_≡_, refl, sym, ap, ap₂, _∙_}
-use mathlib.Core.Bool.{Bool, true, false, cond}
-use mathlib.Core.List.{List, [], _∷_}
+use mathlib.Core.Bool.{true, cond}
+use mathlib.Core.List.{[], _∷_}
 use Prim.Native.Nat.{ℕ, _+_, _-_, _*_, _≤_}
 use native.Mathlib.Nat.{add-mul}
 use native.Mathlib.Omega.{arith}
-use borrow.Author.Tests.{eqb-false, eq-eqb, ne-eqb, le-leb}
+use borrow.Author.Tests.{eqb-false, eq-eqb, ne-eqb}
 use lib.Dec.{lit<, lit≤}
 use lib.IntN.{pos}
-use lib.ListN.{length, drop}
 use Rattle.units.specs.Exactly.{ExactlyWhen}
-use Rattle.units.specs.Limits.{largestMillis}
-use Rattle.units.specs.declared.WideMillis.{WideMillis}
-use Rattle.hex.specs.Digits.{areDigits}
 use Rattle.window.specs.declared.Head.{Head}
 use Rattle.window.specs.declared.Reference.{Reference}
 use Rattle.window.specs.declared.Needed.the-variants as needed
 use Rattle.window.specs.Place.{place, moment, periodEnd, cutToEnd, beforeEnd}
-use Rattle.window.specs.Window.{Stretch, lowEdge, highEdge, windowAt, endOf, passed, Spent}
+use Rattle.window.specs.Window.{lowEdge, highEdge, windowAt, endOf, passed, Spent}
 use Rattle.window.proofs.Unsigned.{lowN, low-is}
 use Rattle.window.proofs.Spending.{passed-spent, spent-is}
 use Rattle.window.proofs.Division.{window-ticks}
@@ -25,8 +21,7 @@ use Rattle.runs.specs.Words.{runsOf, wordsOf, repeated, referencesOf}
 use Rattle.runs.specs.Shape.{runsShaped, zeros}
 use Rattle.runs.specs.Ends.{lastEnd}
 use Rattle.runs.specs.Encoding.{push, encode, tableOf}
-use Rattle.agreement.specs.declared.Record.{Record}
-use Rattle.agreement.specs.Agreement.{every, kept, agrees}
+use Rattle.agreement.specs.Agreement.{every, agrees}
 use Rattle.keeping.specs.Keeping.{unspent, changedBy, wordsBy}
 use Rattle.keeping.specs.Append.{roomOutcome, fitOutcome}
 use Rattle.timeline.specs.Opening.{openOutcome}
@@ -36,14 +31,10 @@ use Rattle.answers.specs.declared.Verdict.{Verdict}
 use Rattle.answers.specs.declared.Verdict.the-variants.{Complete, Lacking}
 use Rattle.answers.specs.Judgement.{verdictAt}
 use Rattle.answers.specs.Edge.{coveredEdge}
-use Rattle.answers.proofs.Cases.{asked-at}
 use Rattle.answers.proofs.Judging.{all-covered, end-lacking}
-use Rattle.frames.specs.Fields.{fieldValues}
-use Rattle.frames.specs.Frames.{frameAs, kindAt, frameOf}
 use Rattle.flonterri.specs.Words.{headWith}
 use Rattle.laws.specs.Calls.{State}
 use Rattle.laws.specs.ByHand.{wide, millis, trimming, stateOf}
-use Rattle.laws.specs.Demand2.{MayAsk}
 use Rattle.laws.specs.Update.{withUpdate, withDepth, headU, fiveU, UpdateRight}
 use Rattle.laws.proofs.ByHand.{by-clock, one-run}
 use Rattle.laws.proofs.Edge.{asked, at-clock}

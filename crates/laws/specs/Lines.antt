@@ -2,7 +2,7 @@
 -- one too many, 17 where its kind may not stand here, then by its fields. An S line stands for an append to the timeline as it is then, and the first
 -- S opens that timeline. Lines are judged in order and the first refused one decides; a file that stops early, or in the middle of a line, is refused
 -- at the line that it lacks. A refused file leaves a zero record and a zeroed table. Paper: The file; Refusal numbers, and the orders below the table.
-use Prim.Native.Nat.{ℕ, _+_, _-_, _*_, _^_}
+use Prim.Native.Nat.{ℕ, _+_, _*_, _^_}
 use mathlib.Core.Bool.{Bool, false, cond, not, _&&_, _||_}
 use mathlib.Core.List.{List, [], _∷_, map}
 use lib.Dec.{eqb, leb, ltb}
