@@ -1,14 +1,18 @@
 /* Case A of the paper: two references of 40 and 10 ticks at timescale 10, in a period of 10 seconds. The verdict
- * of the whole period, the runs that touch a span, and the file, written and read again. It is C and C++ too.
- * What it must print stands in case_a.txt. */
+ * of the whole period, the runs that touch a span, and the file, written and read again; and how far a start is off
+ * that does not join. It is C and C++ too. What it must print stands in case_a.txt. */
 #include <inttypes.h>
 #include <stdint.h>
 #include <stdio.h>
+#include <string.h>
 
 #include "flonterri_timeline.h"
 
 #define TABLE_WORDS (4 * FLONTERRI_RUN_WORDS)
 #define FILE_BYTES 256
+
+/* Where the start of the second S line stands in the file: behind a head line, an S line and a kind. */
+#define SECOND_START (99 + 35 + 2)
 
 /* Prints what a call is refused with, and tells whether it is accepted. */
 static int accepted(const char *call, uint32_t refusal)
@@ -17,6 +21,19 @@ static int accepted(const char *call, uint32_t refusal)
         printf("%s: refused %" PRIu32 "\n", call, refusal);
     }
     return refusal == FLONTERRI_OK;
+}
+
+/* Appends one reference, or tells by how many ticks its start misses the next tick. */
+static int append(struct flonterri_timeline *timeline, uint64_t start, uint32_t duration)
+{
+    uint64_t distance = 0;
+    uint32_t refusal = flonterri_timeline_append(timeline, start, duration, 1, &distance);
+
+    if (refusal == FLONTERRI_GAP || refusal == FLONTERRI_OVERLAP) {
+        printf("append at %" PRIu64 ": refused %" PRIu32 " by %" PRIu64 "\n", start, refusal, distance);
+        return 0;
+    }
+    return accepted("append", refusal);
 }
 
 static void whole_period(const struct flonterri_timeline *timeline)
@@ -58,12 +75,14 @@ static void read_again(const uint8_t *bytes, size_t byte_count)
 {
     static uint64_t table[TABLE_WORDS];
     struct flonterri_timeline timeline;
-    uint64_t line = 0;
+    struct flonterri_read_answer answer;
 
-    if (accepted("read", flonterri_timeline_read(&timeline, table, TABLE_WORDS, bytes, byte_count, &line))) {
+    if (accepted("read", flonterri_timeline_read(&timeline, table, TABLE_WORDS, bytes, byte_count, &answer))) {
         printf("read: next tick %" PRIu64 "\n", timeline.record[FLONTERRI_NEXT_TICK]);
+    } else if (answer.distance != 0) {
+        printf("  in line %" PRIu64 " by %" PRIu64 "\n", answer.line, answer.distance);
     } else {
-        printf("  in line %" PRIu64 "\n", line);
+        printf("  in line %" PRIu64 "\n", answer.line);
     }
     whole_period(&timeline);
 }
@@ -78,11 +97,11 @@ int main(void)
     size_t length = 0;
 
     if (!accepted("open", flonterri_timeline_open(&timeline, table, TABLE_WORDS, &head, 111))
-        || !accepted("append", flonterri_timeline_append(&timeline, 111, 40, 1))
-        || !accepted("append", flonterri_timeline_append(&timeline, 151, 10, 1))) {
+        || !append(&timeline, 111, 40) || !append(&timeline, 151, 10)) {
         return 1;
     }
-    accepted("append at 170", flonterri_timeline_append(&timeline, 170, 10, 1));
+    append(&timeline, 170, 10);
+    append(&timeline, 160, 10);
     whole_period(&timeline);
     availability(&timeline, 0);
     availability(&timeline, UINT64_C(4294967296));
@@ -93,6 +112,8 @@ int main(void)
         fwrite(bytes, 1, length, stdout);
         read_again(bytes, length);
         read_again(bytes, length - 1);
+        memcpy(bytes + SECOND_START, "00000000000000a0", 16);
+        read_again(bytes, length);
     }
     return 0;
 }

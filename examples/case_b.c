@@ -25,6 +25,19 @@ static void show(const char *call, uint32_t refusal)
     }
 }
 
+/* Appends one reference of 4000 ticks by its stamp, and tells by how much a start is off that does not join. */
+static void append_stamp(uint32_t stamp)
+{
+    uint64_t distance = 0;
+    uint32_t refusal = flonterri_timeline_append_stamp(&timeline, stamp, 4000, 1, &distance);
+
+    if (refusal == FLONTERRI_GAP || refusal == FLONTERRI_OVERLAP) {
+        printf("append by stamp: refused %" PRIu32 " by %" PRIu64 "\n", refusal, distance);
+    } else {
+        show("append by stamp", refusal);
+    }
+}
+
 static void verdict(uint64_t clock)
 {
     struct flonterri_verdict_answer answer;
@@ -107,8 +120,10 @@ static void file(void)
 /* Opens with a head, and appends the five references. */
 static void five_references(const struct flonterri_head *head)
 {
+    uint64_t distance = 0;
+
     show("open", flonterri_timeline_open(&timeline, table, TABLE_WORDS, head, 0));
-    show("append", flonterri_timeline_append(&timeline, 0, 4000, 5));
+    show("append", flonterri_timeline_append(&timeline, 0, 4000, 5, &distance));
 }
 
 /* A player that took the manifest at 18 seconds asks for no other before 20: the references just reach so far.
@@ -145,7 +160,7 @@ int main(void)
     trim(18000);
     availability(2);
     verdict(14000);
-    show("append by stamp", flonterri_timeline_append_stamp(&timeline, 20001, 4000, 1));
+    append_stamp(20001);
     file();
     with_update_period(head);
     return 0;

@@ -43,7 +43,8 @@ extern "C" {
 #define FLONTERRI_FULL_TICK_WORDS 2
 #define FLONTERRI_TOUCHING_WORDS 2
 #define FLONTERRI_EDGE_WORDS 2
-#define FLONTERRI_READ_WORDS 1
+#define FLONTERRI_DISTANCE_WORDS 1
+#define FLONTERRI_READ_WORDS 2
 #define FLONTERRI_WRITE_WORDS 1
 
 /* Where each field of a record stands. */
@@ -137,6 +138,13 @@ enum flonterri_edge_kind {
     FLONTERRI_EDGE_AT = 1
 };
 
+/* Where each word stands in out that tells of a reading: the refused line, counted from 1, or 0 where the file is
+ * accepted; and the distance where the answer is 4 or 5, else 0. */
+enum flonterri_read_word {
+    FLONTERRI_READ_LINE = 0,
+    FLONTERRI_READ_DISTANCE = 1
+};
+
 /* What a function answers. Where several numbers apply to a call, it answers the lowest; a file's
  * lines have an order of their own. Before all else a record that is not of 12 words is 2, and then an
  * out that is not of its length is 15. */
@@ -145,8 +153,8 @@ enum flonterri_refusal {
     FLONTERRI_OVER_LIMIT = 1,      /* a head field, the first tick or the offset over its limit, or timescale 0 */
     FLONTERRI_DISAGREEMENT = 2,    /* record and table disagree, or the record is not of 12 words */
     FLONTERRI_NOTHING_GIVEN = 3,   /* duration or count 0 */
-    FLONTERRI_GAP = 4,             /* the start lies after the next tick */
-    FLONTERRI_OVERLAP = 5,         /* the start lies before the next tick */
+    FLONTERRI_GAP = 4,             /* the start lies after the next tick; out tells the distance */
+    FLONTERRI_OVERLAP = 5,         /* the start lies before the next tick; out tells the distance */
     FLONTERRI_TICK_LIMIT = 6,      /* an end over 2^52 - 1 */
     FLONTERRI_COUNT_LIMIT = 7,     /* accepted total over 2^31, or first number plus accepted over 2^32 - 1 */
     FLONTERRI_PAST_END = 8,        /* a reference starts at or after a known period end */
@@ -172,16 +180,20 @@ uint32_t flonterri_open(uint64_t *record, size_t record_words, uint64_t *table, 
                         uint32_t first_number, uint64_t update, uint64_t first_tick);
 
 /* Appends count references of duration ticks each, from start on, a full tick, which must be the next
- * tick. Those that are spent already are counted as dropped and not stored. Refusals 2 to 9. Changes
- * record and table; refused it changes nothing. No null. */
+ * tick. Those that are spent already are counted as dropped and not stored. out has 1 word, the distance: how
+ * many ticks start lies after the next tick where the answer is 4, or before it where it is 5, never 0. Any other
+ * answer leaves out as it came. Refusals 2 to 9, and 15 for out. Changes record and table; refused it changes
+ * nothing but out, and that for 4 and 5 alone. No null. */
 uint32_t flonterri_append(uint64_t *record, size_t record_words, uint64_t *table, size_t table_words,
-                          uint64_t start, uint32_t duration, uint32_t count);
+                          uint64_t start, uint32_t duration, uint32_t count, uint64_t *out, size_t out_words);
 
 /* The same, where the start comes as the low 32 bits of a tick. Stamp less next tick, modulo 2^32, is 0
- * where it joins, below 2^31 where it is a gap, else an overlap. Refusals 2 to 9. Changes record and
- * table; refused it changes nothing. No null. */
+ * where it joins; from 1 up to 2^31 - 1 it is a gap by so many ticks; else it is an overlap by as many as it is
+ * short of 2^32, so by 2^31 where the stamp lies exactly half a circle away. out, refusals and changes as
+ * above. No null. */
 uint32_t flonterri_append_stamp(uint64_t *record, size_t record_words, uint64_t *table, size_t table_words,
-                                uint32_t stamp, uint32_t duration, uint32_t count);
+                                uint32_t stamp, uint32_t duration, uint32_t count, uint64_t *out,
+                                size_t out_words);
 
 /* Raises the greatest clock, unless it is greater already, and drops the references that are spent then. The
  * update period plays no part in it. Refusals 2, 10. Changes record and table; refused it changes nothing.
@@ -242,9 +254,10 @@ uint32_t flonterri_covered_edge(const uint64_t *record, size_t record_words, con
                                 size_t table_words, uint64_t *out, size_t out_words);
 
 /* Reads a whole file into record and table, as opening plus appends. A head of kind 01 has no update period, and
- * is read with 0. out has 1 word: the refused line, counted from 1, or 0 where the file is accepted. Refusals 1,
- * 3 to 9, 16, 17, 18. Refused so, it zeroes record and table and puts the line into out; refused with 2 for the
- * record's length or 15 for out it changes nothing. No null. */
+ * is read with 0. out has 2 words, as flonterri_read_word names them: the refused line, and for 4 and 5 how far its
+ * start lies from the next tick; both are 0 where the file is accepted. Refusals 1, 3 to 9, 16, 17, 18. Refused so,
+ * it zeroes record and table and writes both words of out; refused with 2 for the record's length or 15 for out it
+ * changes nothing. No null. */
 uint32_t flonterri_read(const uint8_t *bytes, size_t byte_count, uint64_t *record, size_t record_words,
                         uint64_t *table, size_t table_words, uint64_t *out, size_t out_words);
 

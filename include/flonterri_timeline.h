@@ -4,10 +4,11 @@
  *     static uint64_t table[100 * FLONTERRI_RUN_WORDS];
  *     struct flonterri_timeline timeline;
  *     struct flonterri_verdict_answer verdict;
+ *     uint64_t distance;
  *     struct flonterri_head head = {.timescale = 1000, .depth = 10000};
  *
  *     if (flonterri_timeline_open(&timeline, table, 100 * FLONTERRI_RUN_WORDS, &head, 0) == FLONTERRI_OK
- *         && flonterri_timeline_append(&timeline, 0, 4000, 5) == FLONTERRI_OK
+ *         && flonterri_timeline_append(&timeline, 0, 4000, 5, &distance) == FLONTERRI_OK
  *         && flonterri_timeline_verdict(&timeline, 14000, &verdict) == FLONTERRI_OK) {
  *         printf("%" PRIu64 " ticks of %" PRIu64 "\n", verdict.covered, verdict.needed);
  *     }
@@ -92,6 +93,12 @@ struct flonterri_edge_answer {
     uint64_t clock; /* in milliseconds from availabilityStartTime; 0 where there is no edge */
 };
 
+/* What a reading tells of the refused line. Both are 0 where the file is accepted. */
+struct flonterri_read_answer {
+    uint64_t line;     /* counted from 1 */
+    uint64_t distance; /* how many ticks its start lies from the next tick, where the answer is 4 or 5; else 0 */
+};
+
 /* ---- the calls that change */
 
 /* A timeline over a table of so many words, with zeros for a record, before it is opened or read. No null. */
@@ -114,20 +121,21 @@ static inline uint32_t flonterri_timeline_open(struct flonterri_timeline *timeli
                           head->update, first_tick);
 }
 
-/* Appends count references of duration ticks each, from a full tick on. Refusals 2 to 9. */
+/* Appends count references of duration ticks each, from a full tick on. Refusals 2 to 9. Refused with 4 or 5, it
+ * puts into distance how many ticks start lies from the next tick; any other answer leaves distance as it came. */
 static inline uint32_t flonterri_timeline_append(struct flonterri_timeline *timeline, uint64_t start,
-                                                 uint32_t duration, uint32_t count)
+                                                 uint32_t duration, uint32_t count, uint64_t *distance)
 {
     return flonterri_append(timeline->record, FLONTERRI_RECORD_WORDS, timeline->table, timeline->table_words, start,
-                            duration, count);
+                            duration, count, distance, FLONTERRI_DISTANCE_WORDS);
 }
 
-/* The same, from the low 32 bits of a tick on. Refusals 2 to 9. */
+/* The same, from the low 32 bits of a tick on. Refusals 2 to 9, and distance as above. */
 static inline uint32_t flonterri_timeline_append_stamp(struct flonterri_timeline *timeline, uint32_t stamp,
-                                                       uint32_t duration, uint32_t count)
+                                                       uint32_t duration, uint32_t count, uint64_t *distance)
 {
     return flonterri_append_stamp(timeline->record, FLONTERRI_RECORD_WORDS, timeline->table, timeline->table_words,
-                                  stamp, duration, count);
+                                  stamp, duration, count, distance, FLONTERRI_DISTANCE_WORDS);
 }
 
 /* Raises the greatest clock, unless it is greater already, and drops what is spent then. Refusals 2, 10. */
@@ -264,12 +272,12 @@ static inline struct flonterri_run flonterri_run_at(const struct flonterri_runs 
 
 /* ---- the file */
 
-/* Reads a whole file into a timeline over a table of so many words. line is the refused line, counted from
- * 1, or 0 where the file is accepted. Refusals 1, 3 to 9, 16, 17, 18, which leave a table and a record of
- * zeros, so that every call but opening and reading is refused with 2. No null. */
+/* Reads a whole file into a timeline over a table of so many words. The answer tells the refused line and its
+ * distance. Refusals 1, 3 to 9, 16, 17, 18, which leave a table and a record of zeros, so that every call but
+ * opening and reading is refused with 2. No null. */
 static inline uint32_t flonterri_timeline_read(struct flonterri_timeline *timeline, uint64_t *table,
                                                size_t table_words, const uint8_t *bytes, size_t byte_count,
-                                               uint64_t *line)
+                                               struct flonterri_read_answer *answer)
 {
     uint64_t out[FLONTERRI_READ_WORDS] = {0};
     uint32_t refusal;
@@ -277,7 +285,8 @@ static inline uint32_t flonterri_timeline_read(struct flonterri_timeline *timeli
     *timeline = flonterri_timeline_over(table, table_words);
     refusal = flonterri_read(bytes, byte_count, timeline->record, FLONTERRI_RECORD_WORDS, table, table_words, out,
                              FLONTERRI_READ_WORDS);
-    *line = out[0];
+    answer->line = out[FLONTERRI_READ_LINE];
+    answer->distance = out[FLONTERRI_READ_DISTANCE];
     return refusal;
 }
 

@@ -1,4 +1,4 @@
--- The paper's number of each refusal. Paper: Refusal numbers.
+-- The paper's number of each refusal, and the distance that a gap and an overlap have. Paper: Refusal numbers.
 use Prim.Native.Nat.{ℕ}
 use Rattle.agreement.specs.declared.refusal.Refusal.{Refusal}
 use Rattle.agreement.specs.declared.refusal.Refusal.the-variants.{OverLimit, Disagreement, NothingGiven, Gap, Overlap, TickLimit, CountLimit, PastEnd, NoRunLeft, ClockLimit, EarlierClock, NothingKept, NotKept, EmptySpan, ShortOutput, BadLine, BadOrder, NoEndToReach, EndUnknown}
@@ -11,9 +11,9 @@ refusalNumber Disagreement = 2
 -- duration or count 0
 refusalNumber NothingGiven = 3
 -- start after the next tick
-refusalNumber Gap = 4
+refusalNumber (Gap d) = 4
 -- start before the next tick
-refusalNumber Overlap = 5
+refusalNumber (Overlap d) = 5
 -- an end over 2^52 - 1
 refusalNumber TickLimit = 6
 -- accepted total over 2^31, or first number plus accepted over 2^32 - 1
@@ -42,3 +42,25 @@ refusalNumber BadOrder = 17
 refusalNumber NoEndToReach = 18
 -- whole-period verdict, end unknown
 refusalNumber EndUnknown = 19
+
+-- how far the start of a refused append lies from the next tick; of every other refusal 0, which no gap and no overlap has
+abbrev pub refusalDistance : Refusal → ℕ
+refusalDistance OverLimit = 0
+refusalDistance Disagreement = 0
+refusalDistance NothingGiven = 0
+refusalDistance (Gap d) = d .0
+refusalDistance (Overlap d) = d .0
+refusalDistance TickLimit = 0
+refusalDistance CountLimit = 0
+refusalDistance PastEnd = 0
+refusalDistance NoRunLeft = 0
+refusalDistance ClockLimit = 0
+refusalDistance EarlierClock = 0
+refusalDistance NothingKept = 0
+refusalDistance NotKept = 0
+refusalDistance EmptySpan = 0
+refusalDistance ShortOutput = 0
+refusalDistance BadLine = 0
+refusalDistance BadOrder = 0
+refusalDistance NoEndToReach = 0
+refusalDistance EndUnknown = 0

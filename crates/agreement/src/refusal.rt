@@ -1,13 +1,15 @@
-// Why a call is refused, a case for each of the paper's numbers.
+// Why a call is refused, a case for each of the paper's numbers. A gap and an overlap say how far the
+// start lies from the next tick.
 ghost use mathlib.Core.Path.{_≡_};
-ghost use Rattle.agreement.specs.Numbers.{refusalNumber};
+ghost use Rattle.agreement.specs.Numbers.{refusalNumber, refusalDistance};
+use units::Distance;
 
 pub enum Refusal {
     OverLimit,
     Disagreement,
     NothingGiven,
-    Gap,
-    Overlap,
+    Gap(Distance),
+    Overlap(Distance),
     TickLimit,
     CountLimit,
     PastEnd,
@@ -32,8 +34,8 @@ impl Refusal {
             Refusal::OverLimit => 1,
             Refusal::Disagreement => 2,
             Refusal::NothingGiven => 3,
-            Refusal::Gap => 4,
-            Refusal::Overlap => 5,
+            Refusal::Gap(_) => 4,
+            Refusal::Overlap(_) => 5,
             Refusal::TickLimit => 6,
             Refusal::CountLimit => 7,
             Refusal::PastEnd => 8,
@@ -48,6 +50,16 @@ impl Refusal {
             Refusal::BadOrder => 17,
             Refusal::NoEndToReach => 18,
             Refusal::EndUnknown => 19,
+        }
+    }
+    // How far the start of a refused append lies from the next tick, 0 where that is not why.
+    pub fn distance(self) -> u64
+        ensures { λ r. ⌜ r ≡ refusalDistance self ⌝ }
+    {
+        match self {
+            Refusal::Gap(distance) => distance.0,
+            Refusal::Overlap(distance) => distance.0,
+            _ => 0,
         }
     }
 }

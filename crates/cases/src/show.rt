@@ -9,6 +9,14 @@ pub(crate) fn put(n: u64) {
     io::print_decimal(STDOUT_FILENO, n);
 }
 
+// How far the start of a refused append lies from the next tick, where that is why.
+fn put_distance(distance: u64) {
+    if distance != 0 {
+        io::write_all(STDOUT_FILENO, b" by");
+        put(distance);
+    }
+}
+
 fn put_record(rec: Record) {
     put(rec.head.timescale.0);
     put(rec.head.offset.0);
@@ -36,6 +44,7 @@ pub(crate) fn show(changed: Changed, table: &[u64]) {
     let rec = changed.rec;
     let outcome = changed.outcome;
     put(outcome.number() as u64);
+    put_distance(outcome.distance());
     io::write_all(STDOUT_FILENO, b" |");
     put_record(rec);
     io::write_all(STDOUT_FILENO, b" |");

@@ -61,8 +61,8 @@ either false p q = q
 
 joins : (st : Standing) {x : Outcome} → Other x → Other (unjoined st else x)
 joins Joins p = p
-joins Gap p = other refusal.Gap refl
-joins Overlap p = other refusal.Overlap refl
+joins (Gap d) p = other (refusal.Gap d) refl
+joins (Overlap d) p = other (refusal.Overlap d) refl
 
 module _ (rec : Record) (ws : List ℕ) (d n : ℕ) where
   fits : Other (fitOutcome rec ws d n)

@@ -7,6 +7,7 @@ use native.Mathlib.Omega.{arith}
 use borrow.Author.Tests.{lt-ltb, le-ltb, eq-eqb, ne-eqb, not-true, not-false}
 use lib.Dec.{eqb, ltb}
 use lib.ListN.{length, replicate}
+use Rattle.units.specs.declared.Distance.{Distance}
 use Rattle.units.specs.declared.Span.{Span}
 use Rattle.units.specs.declared.SpanMade.{SpanMade}
 use Rattle.units.specs.declared.SpanMade.the-variants as span
@@ -158,17 +159,17 @@ module _ (r : Reading) (ws : List ℕ) (st : Standing) (s : SFields) (h : Runnin
       is : sp ≡ record { 0 = s .d }
       is = makers.duration-is (s .d) m made sp o
 
-      pub s-gap : st ≡ Gap → (x : Reading) → x ≡ record { stage = Refused refusal.Gap; lines = r .lines; rec = r .rec } →
+      pub s-gap : (far : Distance) → st ≡ Gap far → (x : Reading) → x ≡ record { stage = Refused (refusal.Gap far); lines = r .lines; rec = r .rec } →
           _≡_ {A = File} (record { reading = x; words = ws }) (takeS r ws st s)
-      s-gap e x k =
-          s-refused refusal.Gap (λ n j. stands-gap (r .rec) ws st (s .d) n (h .0 .agreed) i j e)
-          (λ n. reach-by (r .rec) ws st Gap (s .d) n false (ne-eqb (s .d) 0 i) e) x k
+      s-gap far e x k =
+          s-refused (refusal.Gap far) (λ n j. stands-gap (r .rec) ws st (s .d) n (h .0 .agreed) i j far e)
+          (λ n. reach-by (r .rec) ws st (Gap far) (s .d) n false (ne-eqb (s .d) 0 i) e) x k
 
-      pub s-overlap : st ≡ Overlap → (x : Reading) → x ≡ record { stage = Refused refusal.Overlap; lines = r .lines; rec = r .rec } →
+      pub s-overlap : (far : Distance) → st ≡ Overlap far → (x : Reading) → x ≡ record { stage = Refused (refusal.Overlap far); lines = r .lines; rec = r .rec } →
           _≡_ {A = File} (record { reading = x; words = ws }) (takeS r ws st s)
-      s-overlap e x k =
-          s-refused refusal.Overlap (λ n j. stands-overlap (r .rec) ws st (s .d) n (h .0 .agreed) i j e)
-          (λ n. reach-by (r .rec) ws st Overlap (s .d) n false (ne-eqb (s .d) 0 i) e) x k
+      s-overlap far e x k =
+          s-refused (refusal.Overlap far) (λ n j. stands-overlap (r .rec) ws st (s .d) n (h .0 .agreed) i j far e)
+          (λ n. reach-by (r .rec) ws st (Overlap far) (s .d) n false (ne-eqb (s .d) 0 i) e) x k
 
       pub s-held : Running r ws × (spanHeld sp ≡ true)
       s-held = (h .0, makers.duration-held (s .d) m made sp o)

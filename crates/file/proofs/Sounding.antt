@@ -107,8 +107,8 @@ reach-accepted rec ws st d n a l o = go (eqb d 0) refl st refl (endKnown (rec .h
         outcome.Accepted →
         appendOutcome rec ws st d n ≡ outcome.Accepted
     go true e k j u p v q o = absurd (refused-not refusal.NothingGiven o)
-    go false e Gap j u p v q o = absurd (refused-not refusal.Gap o)
-    go false e Overlap j u p v q o = absurd (refused-not refusal.Overlap o)
+    go false e (Gap d) j u p v q o = absurd (refused-not (refusal.Gap d) o)
+    go false e (Overlap d) j u p v q o = absurd (refused-not (refusal.Overlap d) o)
     go false e Joins j false p v q o = absurd (refused-not refusal.NoEndToReach o)
     go false e Joins j true p false q o = absurd (refused-not refusal.PastEnd o)
     go false e Joins j true p true q o = stands-joins rec ws st d n a (eqb-false d 0 e) (some (eqb-false d 0 e)) j ∙ o

@@ -126,8 +126,8 @@ fn take_s(reading: Reading, table: &mut [u64], standing: Standing, s: SFields) -
             let changed = keeping::append_joined(reading.rec, table, span, s.r + 1);
             settle(reading, Stage::Open, changed)
         }
-        Standing::Gap => refuse(reading, Refusal::Gap),
-        Standing::Overlap => refuse(reading, Refusal::Overlap),
+        Standing::Gap(distance) => refuse(reading, Refusal::Gap(distance)),
+        Standing::Overlap(distance) => refuse(reading, Refusal::Overlap(distance)),
     }
 }
 

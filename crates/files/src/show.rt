@@ -18,6 +18,13 @@ fn put_words(words: &[u64]) {
     }
 }
 
+// How far the start of a refused line lies from the next tick, where that is why.
+fn put_distance(distance: u64) {
+    if distance != 0 {
+        put(b" by ", distance);
+    }
+}
+
 pub(crate) fn put_answer(answer: ReadAnswer, table: &[u64]) {
     let outcome = answer.outcome;
     match outcome {
@@ -31,6 +38,7 @@ pub(crate) fn put_answer(answer: ReadAnswer, table: &[u64]) {
         Outcome::Refused(why) => {
             put(b" refused ", why.number() as u64);
             put(b" line ", answer.line);
+            put_distance(why.distance());
         }
     }
     put_words(table);

@@ -2,7 +2,7 @@
 -- full tick of a stamp is refused for disagreement alone, and zeros behind a table leave agreement as it is.
 use mathlib.Core.Path.{_≡_, refl, sym, ap, ap₂, _∙_}
 use mathlib.Core.Bool.{Bool, true, false, cond, _&&_}
-use mathlib.Core.List.{List, [], _∷_, _++_, append-assoc, append-nil}
+use mathlib.Core.List.{List, [], _++_, append-assoc, append-nil}
 use Prim.Native.Nat.{ℕ, _+_, _-_, _*_, _/_, _≤_, _<_}
 use native.Mathlib.Omega.{arith}
 use borrow.Author.Tests.{eqb-false, leb-true, le-leb}
@@ -30,7 +30,8 @@ use Rattle.agreement.proofs.Agreeing.{agreeing, agree-shaped}
 use Rattle.agreement.proofs.Numbers.{refusal-some}
 use Rattle.keeping.specs.declared.Outcome.{Outcome}
 use Rattle.keeping.specs.declared.Outcome.the-variants as outcome
-use Rattle.keeping.specs.Keeping.{outcomeNumber, changedBy, wordsBy}
+use Rattle.keeping.specs.Keeping.{wordsKeeping, outcomeNumber, changedBy, wordsBy}
+use Rattle.keeping.specs.Append.{unspentOf, appended}
 use Rattle.timeline.specs.Opening.{openOutcome}
 use Rattle.timeline.specs.Appending.{appendOutcome}
 use Rattle.timeline.specs.Trimming.{trimOutcome}
@@ -47,13 +48,13 @@ use Rattle.lookups.specs.declared.Touching.the-variants as touching
 use Rattle.lookups.specs.Spans.{touches, beforeFirst, uptoLast, touchingWords}
 use Rattle.lookups.proofs.Numbering.{after}
 use Rattle.file.specs.declared.Reading.{Reading}
-use Rattle.file.specs.Judging.{readOutcome, readAnswer, readTable, answeredBy, readLines}
+use Rattle.file.specs.Judging.{readOutcome, readAnswer, answeredBy, readLines}
 use Rattle.file.proofs.Accepted.{read-agrees}
 use Rattle.flonterri.specs.Words.{recordWords, recordOf, wordsOf, headWith}
 use Rattle.flonterri.specs.Tells.{Tells, availabilityTells, touchingTells, availableTells, fullTickTells}
-use Rattle.flonterri.specs.Face.{wrongRecord, wrongLength, guarded, Changes, changes, opens, appendsBy, appends, appendsStamp, trims, tells, tellsTouching, tellsAvailability, Reads, readsBy, reads}
+use Rattle.flonterri.specs.Face.{wrongRecord, wrongLength, guarded, Changes, changes, opens, appendsBy, appends, appendsStamp, trims, tells, tellsTouching, tellsAvailability, Leaves, leaves, reads}
 use Rattle.flonterri.specs.Face.{tellsAvailable, tellsFullTick}
-use Rattle.flonterri.specs.Binding.{agreed, LeavesAgreed, Binding}
+use Rattle.flonterri.specs.Binding.{agreed, LeavesAgreed, TellsAgreed, Binding}
 use Rattle.flonterri.proofs.Words.{record-words}
 use Rattle.flonterri.proofs.Lengths.{both-right, behind}
 
@@ -82,18 +83,6 @@ opening-agreed ws ts timescale offset start duration depth first update tick =
     let h = headWith timescale offset start duration depth first update in
     leaves-agreed ws ts _ _ _ (openOutcome h (record { 0 = tick })) (open-agrees h (record { 0 = tick }) (length ts))
 
-appends-agreed : (ws ts : List ℕ) (st : Standing) (d n : ℕ) → d ≤ largestSpan → LeavesAgreed (appendsBy ws ts st d n)
-appends-agreed ws ts st d n small =
-    leaves-agreed ws ts _ _ _ (appendOutcome (recordOf ws) ts st d n) (accepted-keeps (recordOf ws) ts st d n small)
-
-append-agreed : (ws ts : List ℕ) (start d n : ℕ) → d ≤ largestSpan → LeavesAgreed (appends ws ts start d n)
-unfolding appends
-append-agreed ws ts start d n small = appends-agreed ws ts (tickStanding (record { 0 = start }) (recordOf ws .next)) d n small
-
-stamp-agreed : (ws ts : List ℕ) (stamp d n : ℕ) → d ≤ largestSpan → LeavesAgreed (appendsStamp ws ts stamp d n)
-unfolding appendsStamp
-stamp-agreed ws ts stamp d n small = appends-agreed ws ts (stampStanding (record { 0 = stamp }) (recordOf ws .next)) d n small
-
 -- what an accepted trim has passed: 2 and 10
 trim-passed : (rec : Record) (ws : List ℕ) (c : WideMillis) → trimOutcome rec ws c ≡ outcome.Accepted → (agrees rec ws ≡ true) × (c .0 ≤ largestMillis)
 unfolding trimOutcome
@@ -110,28 +99,57 @@ trim-agreed ws ts c =
     leaves-agreed ws ts _ _ _ (trimOutcome (recordOf ws) ts (record { 0 = c }))
     (λ o. let p = trim-passed (recordOf ws) ts (record { 0 = c }) o in trim-keeps (recordOf ws) ts (record { 0 = c }) (p .0) (p .1))
 
--- ---- reading
+-- ---- the calls that change and tell
+
+-- a call whose record and words agree where its number is 0
+tells-agreed : (ws ts out : List ℕ) (size : ℕ) (o : Outcome) (rec : Record) (new told : List ℕ) → (outcomeNumber o ≡ 0 → agrees rec new ≡ true) →
+    TellsAgreed (leaves ws ts out size o rec new told)
+unfolding leaves guarded
+tells-agreed ws ts out size o rec new told k = go (eqb (wrongLength (length ws) (length out) size) 0) refl
+  where
+    at : Bool → Leaves
+    at t =
+        cond t
+        (record { number = outcomeNumber o; words = wordsOf rec; table = new; out = told })
+        (record { number = wrongLength (length ws) (length out) size; words = ws; table = ts; out = out })
+
+    go : (t : Bool) → eqb (wrongLength (length ws) (length out) size) 0 ≡ t → TellsAgreed (at t)
+    go true e z = ap (λ r. agrees r new) (record-words rec) ∙ k z
+    go false e z = absurd (eqb-false (wrongLength (length ws) (length out) size) 0 e z)
+
+appends-agreed : (ws ts out : List ℕ) (st : Standing) (d n : ℕ) → d ≤ largestSpan → TellsAgreed (appendsBy ws ts out st d n)
+unfolding changedBy wordsBy
+appends-agreed ws ts out st d n small =
+    tells-agreed ws ts out 1 _ _ _ _ (go (appendOutcome (recordOf ws) ts st d n) (accepted-keeps (recordOf ws) ts st d n small))
+  where
+    new : Record
+    new = appended (recordOf ws) ts d n
+
+    left : List ℕ
+    left = wordsKeeping ts (unspentOf (recordOf ws) ts d n)
+
+    go : (o : Outcome) → (o ≡ outcome.Accepted → agrees new left ≡ true) → outcomeNumber (changedBy o new (recordOf ws) .outcome) ≡ 0 →
+        agrees (changedBy o new (recordOf ws) .rec) (wordsBy o left ts) ≡ true
+    go outcome.Accepted k z = k refl
+    go (outcome.Refused why) k z = absurd (refusal-some why z)
+
+append-agreed : (ws ts out : List ℕ) (start d n : ℕ) → d ≤ largestSpan → TellsAgreed (appends ws ts out start d n)
+unfolding appends
+append-agreed ws ts out start d n small = appends-agreed ws ts out (tickStanding (record { 0 = start }) (recordOf ws .next)) d n small
+
+stamp-agreed : (ws ts out : List ℕ) (stamp d n : ℕ) → d ≤ largestSpan → TellsAgreed (appendsStamp ws ts out stamp d n)
+unfolding appendsStamp
+stamp-agreed ws ts out stamp d n small = appends-agreed ws ts out (stampStanding (record { 0 = stamp }) (recordOf ws .next)) d n small
 
 -- a reading whose number is 0 is accepted
 read-accepted : (o : Outcome) (r : Reading) → outcomeNumber (answeredBy o r .outcome) ≡ 0 → o ≡ outcome.Accepted
 read-accepted outcome.Accepted r z = refl
 read-accepted (outcome.Refused why) r z = absurd (refusal-some why z)
 
-read-agreed : (bytes ws ts out : List ℕ) → reads bytes ws ts out .number ≡ 0 → agreed (reads bytes ws ts out .words) (reads bytes ws ts out .table) ≡ true
-unfolding reads readsBy guarded readAnswer
-read-agreed bytes ws ts out = go (eqb (wrongLength (length ws) (length out) 1) 0) refl
-  where
-    at : Bool → Reads
-    at t =
-        cond t
-        (record { number = outcomeNumber (readAnswer bytes ts .outcome); words = wordsOf (readAnswer bytes ts .rec); table = readTable bytes ts; out = readAnswer bytes ts .line ∷ [] })
-        (record { number = wrongLength (length ws) (length out) 1; words = ws; table = ts; out = out })
-
-    go : (t : Bool) → eqb (wrongLength (length ws) (length out) 1) 0 ≡ t → at t .number ≡ 0 → agreed (at t .words) (at t .table) ≡ true
-    go true e z =
-        ap (λ r. agrees r (readTable bytes ts)) (record-words (readAnswer bytes ts .rec)) ∙
-        read-agrees bytes ts (read-accepted (readOutcome bytes ts) (readLines bytes ts .reading) z)
-    go false e z = absurd (eqb-false (wrongLength (length ws) (length out) 1) 0 e z)
+read-agreed : (bytes ws ts out : List ℕ) → TellsAgreed (reads bytes ws ts out)
+unfolding reads readAnswer
+read-agreed bytes ws ts out =
+    tells-agreed ws ts out 2 _ _ _ _ (λ z. read-agrees bytes ts (read-accepted (readOutcome bytes ts) (readLines bytes ts .reading) z))
 
 -- ---- the calls that look
 

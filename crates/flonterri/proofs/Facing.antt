@@ -4,16 +4,18 @@ use mathlib.Core.Path.{_≡_, refl, ap, _∙_}
 use mathlib.Core.List.{List, [], _∷_}
 use Prim.Native.Nat.{ℕ}
 use lib.ListN.{length, set}
-use Rattle.units.specs.Standing.{stampStanding}
+use Rattle.units.specs.declared.Tick.{Tick}
+use Rattle.units.specs.declared.standing.Standing.{Standing}
 use Rattle.agreement.specs.declared.Record.{Record}
 use Rattle.keeping.specs.declared.Changed.{Changed}
-use Rattle.keeping.specs.Keeping.{outcomeNumber}
+use Rattle.keeping.specs.declared.Outcome.{Outcome}
+use Rattle.keeping.specs.Keeping.{outcomeNumber, outcomeDistance}
 use Rattle.timeline.specs.Appending.{appendAnswer, appendTable}
 use Rattle.file.specs.declared.ReadAnswer.{ReadAnswer}
 use Rattle.writing.specs.declared.WriteAnswer.{WriteAnswer}
 use Rattle.flonterri.specs.Words.{recordOf, wordsOf}
-use Rattle.flonterri.specs.Tells.{Tells, writeTells}
-use Rattle.flonterri.specs.Face.{wrongRecord, wrongLength, Changes, changes, appendsStamp, tells, Reads, readsBy, Writes, writesBy}
+use Rattle.flonterri.specs.Tells.{Tells, writeTells, distanceOut}
+use Rattle.flonterri.specs.Face.{wrongRecord, wrongLength, Changes, changes, tells, Leaves, leaves, appendsBy, readsBy, Writes, writesBy}
 use Rattle.flonterri.proofs.Words.{all-set}
 use Rattle.flonterri.proofs.Lengths.{stopped, behind, second-right}
 
@@ -50,25 +52,6 @@ module _ (ws ts : List ℕ) (r : ℕ) (e : r ≡ wrongRecord (length ws)) where
           ),
         )
 
--- an append by stamp, one law a part: its proof names no call, so that another call in its place is refused for what it answers
-module _ (ws ts : List ℕ) (stamp d n r : ℕ) (e : r ≡ wrongRecord (length ws)) (z : r ≡ 0) (rec : Record) (m : rec ≡ recordOf ws) (x : Changed) (a : x ≡ appendAnswer rec ts (stampStanding (record { 0 = stamp }) (rec .next)) d n) where
-  stamp-by :
-      (new : List ℕ)
-      → new ≡ appendTable rec ts (stampStanding (record { 0 = stamp }) (rec .next)) d n
-      → Changed-to (appendsStamp ws ts stamp d n) (outcomeNumber (x .outcome)) (wordsOf (x .rec)) new
-  unfolding appendsStamp
-  stamp-by new b =
-      changes-by ws ts r e (λ y. appendAnswer y ts (stampStanding (record { 0 = stamp }) (y .next)) d n) (λ y. appendTable y ts (stampStanding (record { 0 = stamp }) (y .next)) d n) z rec (recordOf ws) m x new a b _ _ refl refl
-
-  pub stamp-number : (k : ℕ) → k ≡ outcomeNumber (x .outcome) → k ≡ appendsStamp ws ts stamp d n .number
-  stamp-number k p = p ∙ stamp-by _ refl .0
-
-  pub stamp-words : (us : List ℕ) → us ≡ wordsOf (x .rec) → us ≡ appendsStamp ws ts stamp d n .words
-  stamp-words us p = p ∙ stamp-by _ refl .1 .0
-
-  pub stamp-table : (new : List ℕ) → new ≡ appendTable rec ts (stampStanding (record { 0 = stamp }) (rec .next)) d n → new ≡ appendsStamp ws ts stamp d n .table
-  stamp-table new b = stamp-by new b .1 .1
-
 -- ---- the calls that look
 
 module _ {A B : Type 0} (ws : List ℕ) (size : ℕ) (out : List A) (r : ℕ) (e : r ≡ wrongLength (length ws) (length out) size) (tell : B → List A → Tells A) where
@@ -97,20 +80,69 @@ module _ {A B : Type 0} (ws : List ℕ) (size : ℕ) (out : List A) (r : ℕ) (e
         q ∙ ap (λ y. tell y out .out) same-v ∙ ap (λ (t : Tells A). t .out) back,
       )
 
--- ---- the file
+-- ---- the calls that change and tell
 
-abbrev pub Read-to : Reads → ℕ → List ℕ → List ℕ → List ℕ → Type 0
-Read-to t n ws ts out = (n ≡ t .number) × ((ws ≡ t .words) × ((ts ≡ t .table) × (out ≡ t .out)))
+abbrev pub Left-to : Leaves → ℕ → List ℕ → List ℕ → List ℕ → Type 0
+Left-to t n ws ts out = (n ≡ t .number) × ((ws ≡ t .words) × ((ts ≡ t .table) × (out ≡ t .out)))
 
-module _ (ws ts out : List ℕ) (r : ℕ) (e : r ≡ wrongLength (length ws) (length out) 1) where
-  pub reads-nothing : (a : ReadAnswer) (new : List ℕ) → (r ≡ 0 → ⊥) → Read-to (readsBy ws ts out a new) r ws ts out
-  unfolding readsBy
-  reads-nothing a new k =
-      let back : _ ≡ readsBy ws ts out a new = stopped _ _ _ r e k in (
-        ap (λ (t : Reads). t .number) back,
-        (ap (λ (t : Reads). t .words) back, (ap (λ (t : Reads). t .table) back, ap (λ (t : Reads). t .out) back)),
+module _ (ws ts out : List ℕ) (size r : ℕ) (e : r ≡ wrongLength (length ws) (length out) size) where
+  pub leaves-nothing : (o : Outcome) (rec : Record) (new told : List ℕ) → (r ≡ 0 → ⊥) → Left-to (leaves ws ts out size o rec new told) r ws ts out
+  unfolding leaves
+  leaves-nothing o rec new told k =
+      let back : _ ≡ leaves ws ts out size o rec new told = stopped _ _ _ r e k in (
+        ap (λ (t : Leaves). t .number) back,
+        (ap (λ (t : Leaves). t .words) back, (ap (λ (t : Leaves). t .table) back, ap (λ (t : Leaves). t .out) back)),
       )
 
+  pub leaves-by :
+      r ≡ 0
+      → (o : Outcome) (rec : Record) (new told : List ℕ)
+      → (n : ℕ) (us vs os : List ℕ)
+      → n ≡ outcomeNumber o
+      → us ≡ wordsOf rec
+      → vs ≡ new
+      → os ≡ told
+      → Left-to (leaves ws ts out size o rec new told) n us vs os
+  unfolding leaves
+  leaves-by z o rec new told n us vs os p q v w =
+      let back : _ ≡ leaves ws ts out size o rec new told = behind _ _ _ r e z in (
+        p ∙ ap (λ (t : Leaves). t .number) back,
+        (q ∙ ap (λ (t : Leaves). t .words) back, (v ∙ ap (λ (t : Leaves). t .table) back, w ∙ ap (λ (t : Leaves). t .out) back)),
+      )
+
+-- an append to the record that was made of words, one law a part: its proof names no call, so that another call in its place is refused for what it
+-- answers
+module _ (ws ts out : List ℕ) (standing : Tick → Standing) (d n r : ℕ) (e : r ≡ wrongLength (length ws) (length out) 1) (z : r ≡ 0) (rec : Record)
+    (m : rec ≡ recordOf ws) (x : Changed) (a : x ≡ appendAnswer rec ts (standing (rec .next)) d n) where
+  abbrev seen : Leaves
+  seen = appendsBy ws ts out (standing (recordOf ws .next)) d n
+
+  same : x ≡ appendAnswer (recordOf ws) ts (standing (recordOf ws .next)) d n
+  same = a ∙ ap (λ y. appendAnswer y ts (standing (y .next)) d n) m
+
+  appended : Left-to seen (outcomeNumber (x .outcome)) (wordsOf (x .rec)) (appendTable (recordOf ws) ts (standing (recordOf ws .next)) d n) (distanceOut (x .outcome) out)
+  appended =
+      leaves-by ws ts out 1 r e z _ _ _ _ _ _ _ _
+      (ap (λ y. outcomeNumber (y .outcome)) same)
+      (ap (λ y. wordsOf (y .rec)) same)
+      refl
+      (ap (λ y. distanceOut (y .outcome) out) same)
+
+  pub append-number : (k : ℕ) → k ≡ outcomeNumber (x .outcome) → k ≡ seen .number
+  append-number k p = p ∙ appended .0
+
+  pub append-words : (us : List ℕ) → us ≡ wordsOf (x .rec) → us ≡ seen .words
+  append-words us p = p ∙ appended .1 .0
+
+  pub append-table : (new : List ℕ) → new ≡ appendTable rec ts (standing (rec .next)) d n → new ≡ seen .table
+  append-table new b = b ∙ ap (λ y. appendTable y ts (standing (y .next)) d n) m ∙ appended .1 .1 .0
+
+  pub append-out : (os : List ℕ) → os ≡ distanceOut (x .outcome) out → os ≡ seen .out
+  append-out os p = p ∙ appended .1 .1 .1
+
+-- ---- the file
+
+module _ (ws ts out : List ℕ) (r : ℕ) (e : r ≡ wrongLength (length ws) (length out) 2) where
   pub reads-by :
       (a : ReadAnswer) (new : List ℕ)
       → r ≡ 0
@@ -122,18 +154,15 @@ module _ (ws ts out : List ℕ) (r : ℕ) (e : r ≡ wrongLength (length ws) (le
       → (n : ℕ)
       → n ≡ outcomeNumber (x .outcome)
       → (os : List ℕ)
-      → os ≡ set out 0 (x .line)
-      → Read-to (readsBy ws ts out a new) n us vs os
-  unfolding readsBy
+      → os ≡ set (set out 0 (x .line)) 1 (outcomeDistance (x .outcome))
+      → Left-to (readsBy ws ts out a new) n us vs os
   reads-by a new z x vs b v us p n q os o =
-      let back : _ ≡ readsBy ws ts out a new = behind _ _ _ r e z in
-      let line : set out 0 (x .line) ≡ x .line ∷ [] = all-set out (x .line ∷ []) (second-right r (length ws) (length out) 1 e z) in (
-        q ∙ ap (λ y. outcomeNumber (y .outcome)) b ∙ ap (λ (t : Reads). t .number) back,
-        (
-          p ∙ ap (λ y. wordsOf (y .rec)) b ∙ ap (λ (t : Reads). t .words) back,
-          (v ∙ ap (λ (t : Reads). t .table) back, o ∙ line ∙ ap (λ y. y .line ∷ []) b ∙ ap (λ (t : Reads). t .out) back),
-        ),
-      )
+      leaves-by ws ts out 2 r e z _ _ _ _ _ _ _ _
+      (q ∙ ap (λ y. outcomeNumber (y .outcome)) b)
+      (p ∙ ap (λ y. wordsOf (y .rec)) b)
+      v
+      (o ∙ all-set out (x .line ∷ outcomeDistance (x .outcome) ∷ []) (second-right r (length ws) (length out) 2 e z) ∙
+      ap (λ y. y .line ∷ outcomeDistance (y .outcome) ∷ []) b)
 
 abbrev pub Written-to : Writes → ℕ → List ℕ → List ℕ → Type 0
 Written-to t n bytes out = (n ≡ t .number) × ((bytes ≡ t .bytes) × (out ≡ t .out))

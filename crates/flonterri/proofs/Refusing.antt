@@ -1,22 +1,22 @@
 -- What a refused call leaves: all memory as it came, but for the zero record of a refused opening, and for the zeros and the
 -- line of a refused reading. And what a complete verdict says: all covered, and 100 percent.
 use mathlib.Core.Path.{_≡_, refl, sym, ap, _∙_}
-use mathlib.Core.Bool.{Bool, true, false, cond, false≢true}
+use mathlib.Core.Bool.{Bool, true, false, cond, _||_, false≢true}
 use mathlib.Core.List.{List, [], _∷_}
-use Prim.Native.Nat.{ℕ, _+_}
+use Prim.Native.Nat.{ℕ}
 use native.Mathlib.Omega.{arith}
 use borrow.Author.Tests.{eqb-true}
 use lib.Dec.{eqb}
 use lib.IntN.{ℤ}
 use lib.ListN.{length, replicate}
 use Rattle.units.specs.declared.WideMillis.{WideMillis}
-use Rattle.units.specs.Standing.{tickStanding, stampStanding}
 use Rattle.agreement.specs.declared.Record.{Record}
+use Rattle.agreement.specs.Numbers.{refusalNumber}
+use Rattle.agreement.specs.Rows.{_when_else_}
 use Rattle.keeping.specs.declared.Outcome.{Outcome}
 use Rattle.keeping.specs.declared.Outcome.the-variants as outcome
-use Rattle.keeping.specs.Keeping.{outcomeNumber, changedBy, wordsBy}
+use Rattle.keeping.specs.Keeping.{outcomeNumber, outcomeDistance, changedBy, wordsBy}
 use Rattle.timeline.specs.Opening.{freshRecord, zeroRecord, openOutcome}
-use Rattle.timeline.specs.Appending.{appendOutcome}
 use Rattle.timeline.specs.Trimming.{trimOutcome}
 use Rattle.answers.specs.declared.Verdict.{Verdict}
 use Rattle.answers.specs.declared.Verdict.the-variants as verdict
@@ -40,8 +40,8 @@ use Rattle.writing.specs.declared.WriteAnswer.{WriteAnswer}
 use Rattle.writing.specs.declared.WriteAnswer.the-variants as written
 use Rattle.writing.specs.Writing.{writeAnswer, outputBy, fileFor}
 use Rattle.flonterri.specs.Words.{recordWords, recordOf, wordsOf, headWith}
-use Rattle.flonterri.specs.Tells.{Tells, verdictOut, verdictTells, availabilityOut, availabilityTells, touchingOut, touchingTells, writeOut, writeTells, availableOut, availableTells, fullTickOut, fullTickTells, edgeOut, edgeTells}
-use Rattle.flonterri.specs.Face.{wrongRecord, wrongLength, guarded, Changes, changes, opens, appends, appendsStamp, trims, tells, tellsVerdict, tellsWhole, tellsAvailability, tellsTouching, Reads, readsBy, reads, Writes, writesBy, writes, tellsAvailable, tellsFullTick, tellsEdge}
+use Rattle.flonterri.specs.Tells.{Tells, verdictOut, verdictTells, availabilityOut, availabilityTells, touchingOut, touchingTells, writeOut, writeTells, availableOut, availableTells, fullTickOut, fullTickTells, edgeOut, edgeTells, distanceOut}
+use Rattle.flonterri.specs.Face.{wrongRecord, wrongLength, guarded, Changes, changes, opens, trims, Leaves, leaves, tells, tellsVerdict, tellsWhole, tellsAvailability, tellsTouching, reads, Writes, writesBy, writes, tellsAvailable, tellsFullTick, tellsEdge}
 use Rattle.flonterri.proofs.Words.{words-record}
 use Rattle.flonterri.proofs.Lengths.{both-right, behind}
 
@@ -68,19 +68,6 @@ module _ (ws ts : List ℕ) (new : Record) (left : List ℕ) where
       go true e (outcome.Refused why) k = (words-record ws (eqb-true _ _ e), refl)
 
 module _ (ws ts : List ℕ) where
-  pub append-refused :
-      (start d n : ℕ) → (appends ws ts start d n .number ≡ 0 → ⊥) → (appends ws ts start d n .words ≡ ws) × (appends ws ts start d n .table ≡ ts)
-  unfolding appends
-  append-refused start d n k = refused-leaves ws ts _ _ (appendOutcome (recordOf ws) ts (tickStanding (record { 0 = start }) (recordOf ws .next)) d n) k
-
-  pub append-stamp-refused :
-      (stamp d n : ℕ)
-      → (appendsStamp ws ts stamp d n .number ≡ 0 → ⊥)
-      → (appendsStamp ws ts stamp d n .words ≡ ws) × (appendsStamp ws ts stamp d n .table ≡ ts)
-  unfolding appendsStamp
-  append-stamp-refused stamp d n k =
-      refused-leaves ws ts _ _ (appendOutcome (recordOf ws) ts (stampStanding (record { 0 = stamp }) (recordOf ws .next)) d n) k
-
   pub trim-refused : (c : ℕ) → (trims ws ts c .number ≡ 0 → ⊥) → (trims ws ts c .words ≡ ws) × (trims ws ts c .table ≡ ts)
   unfolding trims
   trim-refused c k = refused-leaves ws ts _ _ (trimOutcome (recordOf ws) ts (record { 0 = c })) k
@@ -105,6 +92,46 @@ module _ (ws ts : List ℕ) where
         go false o n = let z : ⊥ = omega arith in absurd z
         go true outcome.Accepted n = let z : ⊥ = omega arith in absurd z
         go true (outcome.Refused why) n = (refl, refl)
+
+-- ---- appends
+
+-- record and table as they came where the call is refused; out has the distance of a gap or an overlap, and else it is as it came
+module _ (ws ts out : List ℕ) (new : Record) (left : List ℕ) where
+  abbrev appendedBy : Outcome → Leaves
+  appendedBy o =
+      let x = changedBy o new (recordOf ws) in
+      leaves ws ts out 1 (x .outcome) (x .rec) (wordsBy o left ts) (distanceOut (x .outcome) out)
+
+  -- by what the lengths and the outcome are
+  abbrev seen : Bool → Bool → Outcome → Leaves
+  seen s t o =
+      let x = changedBy o new (recordOf ws) in
+      cond (eqb (cond s (cond t 0 15) 2) 0)
+      (record { number = outcomeNumber (x .outcome); words = wordsOf (x .rec); table = wordsBy o left ts; out = distanceOut (x .outcome) out })
+      (record { number = cond s (cond t 0 15) 2; words = ws; table = ts; out = out })
+
+  pub refused-appends : (o : Outcome) → (appendedBy o .number ≡ 0 → ⊥) → (appendedBy o .words ≡ ws) × (appendedBy o .table ≡ ts)
+  unfolding leaves guarded wrongLength changedBy wordsBy
+  refused-appends o k = go (eqb (length ws) recordWords) (eqb (length out) 1) refl o k
+    where
+      go : (s t : Bool) → eqb (length ws) recordWords ≡ s → (o : Outcome) → (seen s t o .number ≡ 0 → ⊥) → (seen s t o .words ≡ ws) × (seen s t o .table ≡ ts)
+      go false t e o k = (refl, refl)
+      go true false e o k = (refl, refl)
+      go true true e outcome.Accepted k = absurd (k refl)
+      go true true e (outcome.Refused why) k = (words-record ws (eqb-true _ _ e), refl)
+
+  -- 4 and 5 tell the distance, which goes by the number, and no other number tells anything
+  pub distance-told : (far : ℕ → ℕ) (o : Outcome) → outcomeDistance o ≡ far (outcomeNumber o) →
+      appendedBy o .out ≡ ((far (appendedBy o .number) ∷ []) when eqb (appendedBy o .number) 4 || eqb (appendedBy o .number) 5 else out)
+  unfolding leaves guarded wrongLength changedBy wordsBy distanceOut
+  distance-told far o e = go (eqb (length ws) recordWords) (eqb (length out) 1) o e
+    where
+      go : (s t : Bool) (o : Outcome) → outcomeDistance o ≡ far (outcomeNumber o) →
+          seen s t o .out ≡ ((far (seen s t o .number) ∷ []) when eqb (seen s t o .number) 4 || eqb (seen s t o .number) 5 else out)
+      go false t o e = refl
+      go true false o e = refl
+      go true true outcome.Accepted e = refl
+      go true true (outcome.Refused why) e = ap (λ (m : ℕ). (m ∷ []) when eqb (refusalNumber why) 4 || eqb (refusalNumber why) 5 else out) e
 
 -- ---- the calls that look
 
@@ -192,36 +219,31 @@ module _ (ws ts : List ℕ) where
 
 -- ---- the file
 
--- a refused reading zeroes record and table, and says which line
-module _ (bytes ws ts out : List ℕ) (l : length ws ≡ recordWords) (m : length out ≡ 1) where
-  abbrev readBy : Outcome → Reads
+-- a refused reading zeroes record and table
+module _ (bytes ws ts out : List ℕ) (l : length ws ≡ recordWords) (m : length out ≡ 2) where
+  abbrev readBy : Outcome → Leaves
   readBy o =
       let answer = answeredBy o (readLines bytes ts .reading) in
       record {
         number = outcomeNumber (answer .outcome);
         words = wordsOf (answer .rec);
         table = wordsBy o (readLines bytes ts .words) (zeroed ts);
-        out = answer .line ∷ [];
+        out = answer .line ∷ outcomeDistance (answer .outcome) ∷ [];
       }
 
   is-read : readBy (readOutcome bytes ts) ≡ reads bytes ws ts out
-  unfolding reads readsBy readAnswer readTable
-  is-read = behind _ _ _ 0 (both-right _ _ 1 l m) refl
+  unfolding reads leaves readAnswer readTable
+  is-read = behind _ _ _ 0 (both-right _ _ 2 l m) refl
 
   pub read-refused :
-      (reads bytes ws ts out .number ≡ 0 → ⊥)
-      → (reads bytes ws ts out .words ≡ replicate recordWords 0)
-      × ((reads bytes ws ts out .table ≡ replicate (length ts) 0) × (reads bytes ws ts out .out ≡ (readLines bytes ts .reading .lines + 1) ∷ []))
+      (reads bytes ws ts out .number ≡ 0 → ⊥) → (reads bytes ws ts out .words ≡ replicate recordWords 0) × (reads bytes ws ts out .table ≡ replicate (length ts) 0)
   unfolding wordsBy wordsOf
   read-refused k = go (readOutcome bytes ts) is-read
     where
-      go :
-          (o : Outcome)
-          → readBy o ≡ reads bytes ws ts out
-          → (reads bytes ws ts out .words ≡ replicate recordWords 0)
-          × ((reads bytes ws ts out .table ≡ replicate (length ts) 0) × (reads bytes ws ts out .out ≡ (readLines bytes ts .reading .lines + 1) ∷ []))
-      go outcome.Accepted e = absurd (k (ap (λ (y : Reads). y .number) (sym e)))
-      go (outcome.Refused why) e = (ap (λ (y : Reads). y .words) (sym e), (ap (λ (y : Reads). y .table) (sym e), ap (λ (y : Reads). y .out) (sym e)))
+      go : (o : Outcome) → readBy o ≡ reads bytes ws ts out →
+          (reads bytes ws ts out .words ≡ replicate recordWords 0) × (reads bytes ws ts out .table ≡ replicate (length ts) 0)
+      go outcome.Accepted e = absurd (k (ap (λ (y : Leaves). y .number) (sym e)))
+      go (outcome.Refused why) e = (ap (λ (y : Leaves). y .words) (sym e), ap (λ (y : Leaves). y .table) (sym e))
 
 -- a refused writing changes no byte
 pub write-refused :

@@ -13,27 +13,30 @@ use lib.ListN.{length, replicate}
 use Rattle.units.specs.Limits.{largestSpan, largestMillis, largestNumber}
 use Rattle.agreement.specs.Agreement.{kept, agrees}
 use Rattle.flonterri.specs.Words.{recordWords, recordOf}
-use Rattle.flonterri.specs.Face.{Changes, opens, appends, appendsStamp, trims, tellsTouching, tellsAvailability, reads, tellsAvailable, tellsFullTick}
+use Rattle.flonterri.specs.Face.{Changes, Leaves, opens, appends, appendsStamp, trims, tellsTouching, tellsAvailability, reads, tellsAvailable, tellsFullTick}
 
 -- whether the record that words mean agrees with a table
 abbrev pub agreed : List ℕ → List ℕ → Bool
 agreed ws ts = agrees (recordOf ws) ts
 
--- accepted, a call leaves words that agree
+-- accepted, a call leaves words that agree; and so does one that tells as well
 abbrev pub LeavesAgreed : Changes → Type 0
 LeavesAgreed x = x .number ≡ 0 → agreed (x .words) (x .table) ≡ true
+
+abbrev pub TellsAgreed : Leaves → Type 0
+TellsAgreed x = x .number ≡ 0 → agreed (x .words) (x .table) ≡ true
 
 pub record Binding : Type 0 where
   -- opening, of any head fields and first tick
   pub opening : (ws ts : List ℕ) (timescale offset start duration depth first update tick : ℕ) →
       LeavesAgreed (opens ws ts timescale offset start duration depth first update tick)
   -- appends, by full tick and by stamp; a duration is one of 32 bits, as its type says
-  pub append : (ws ts : List ℕ) (start d n : ℕ) → d ≤ largestSpan → LeavesAgreed (appends ws ts start d n)
-  pub append-stamp : (ws ts : List ℕ) (stamp d n : ℕ) → d ≤ largestSpan → LeavesAgreed (appendsStamp ws ts stamp d n)
+  pub append : (ws ts out : List ℕ) (start d n : ℕ) → d ≤ largestSpan → TellsAgreed (appends ws ts out start d n)
+  pub append-stamp : (ws ts out : List ℕ) (stamp d n : ℕ) → d ≤ largestSpan → TellsAgreed (appendsStamp ws ts out stamp d n)
   -- trim
   pub trim : (ws ts : List ℕ) (c : ℕ) → LeavesAgreed (trims ws ts c)
   -- reading, of any bytes
-  pub read : (bytes ws ts out : List ℕ) → reads bytes ws ts out .number ≡ 0 → agreed (reads bytes ws ts out .words) (reads bytes ws ts out .table) ≡ true
+  pub read : (bytes ws ts out : List ℕ) → TellsAgreed (reads bytes ws ts out)
   -- the runs that touch the ticks from 0 up to 1: 0 where record and table agree, else 2
   pub touching : (ws ts out : List ℕ) → length ws ≡ recordWords → length out ≡ 2 →
       tellsTouching ws ts 0 1 out .number ≡ cond (agreed ws ts) 0 2

@@ -12,8 +12,10 @@ use Rattle.units.specs.Standing.{tickStanding, stampStanding}
 use Rattle.agreement.specs.declared.refusal.Refusal.the-variants.{Disagreement, ShortOutput}
 use Rattle.agreement.specs.Numbers.{refusalNumber}
 use Rattle.agreement.specs.Rows.{_unless_else_}
+use Rattle.agreement.specs.declared.Record.{Record}
 use Rattle.keeping.specs.declared.Changed.{Changed}
-use Rattle.keeping.specs.Keeping.{outcomeNumber}
+use Rattle.keeping.specs.declared.Outcome.{Outcome}
+use Rattle.keeping.specs.Keeping.{outcomeNumber, outcomeDistance}
 use Rattle.timeline.specs.Opening.{openAnswer, openTable}
 use Rattle.timeline.specs.Appending.{appendAnswer, appendTable}
 use Rattle.timeline.specs.Trimming.{trimAnswer, trimTable}
@@ -27,7 +29,7 @@ use Rattle.file.specs.Judging.{readAnswer, readTable}
 use Rattle.writing.specs.declared.WriteAnswer.{WriteAnswer}
 use Rattle.writing.specs.Writing.{writeAnswer, outputBy, fileFor}
 use Rattle.flonterri.specs.Words.{recordWords, headWith, recordOf, wordsOf}
-use Rattle.flonterri.specs.Tells.{Tells, verdictTells, availabilityTells, touchingTells, writeTells, availableTells, fullTickTells, edgeTells}
+use Rattle.flonterri.specs.Tells.{Tells, verdictTells, availabilityTells, touchingTells, writeTells, availableTells, fullTickTells, edgeTells, distanceOut}
 
 -- ---- guarded by lengths
 
@@ -65,17 +67,35 @@ opens ws ts timescale offset start duration depth first update tick =
     let h = headWith timescale offset start duration depth first update in
     changes ws ts (openAnswer h (record { 0 = tick })) (openTable h (record { 0 = tick }) ts)
 
-abbrev pub appendsBy : List ℕ → List ℕ → Standing → ℕ → ℕ → Changes
-appendsBy ws ts st d n = changes ws ts (appendAnswer (recordOf ws) ts st d n) (appendTable (recordOf ws) ts st d n)
-
-unfoldable pub appends : List ℕ → List ℕ → ℕ → ℕ → ℕ → Changes
-appends ws ts start d n = appendsBy ws ts (tickStanding (record { 0 = start }) (recordOf ws .next)) d n
-
-unfoldable pub appendsStamp : List ℕ → List ℕ → ℕ → ℕ → ℕ → Changes
-appendsStamp ws ts stamp d n = appendsBy ws ts (stampStanding (record { 0 = stamp }) (recordOf ws .next)) d n
-
 unfoldable pub trims : List ℕ → List ℕ → ℕ → Changes
 trims ws ts c = changes ws ts (trimAnswer (recordOf ws) ts (record { 0 = c })) (trimTable (recordOf ws) ts (record { 0 = c }))
+
+-- ---- the calls that change and tell
+
+-- the number, the record's words, the table's, and out
+pub record Leaves : Type 0 where
+  pub number : ℕ
+  pub words : List ℕ
+  pub table : List ℕ
+  pub out : List ℕ
+
+-- by the outcome of the call, its record, the words that it leaves in the table, and what it tells in an out of n words
+unfoldable pub leaves : List ℕ → List ℕ → List ℕ → ℕ → Outcome → Record → List ℕ → List ℕ → Leaves
+leaves ws ts out n o rec new told =
+    guarded (wrongLength (length ws) (length out) n) (λ wrong. record { number = wrong; words = ws; table = ts; out = out })
+    (record { number = outcomeNumber o; words = wordsOf rec; table = new; out = told })
+
+-- an append tells the distance where it is refused with 4 or 5, and else leaves out as it came
+abbrev pub appendsBy : List ℕ → List ℕ → List ℕ → Standing → ℕ → ℕ → Leaves
+appendsBy ws ts out st d n =
+    let x = appendAnswer (recordOf ws) ts st d n in
+    leaves ws ts out 1 (x .outcome) (x .rec) (appendTable (recordOf ws) ts st d n) (distanceOut (x .outcome) out)
+
+unfoldable pub appends : List ℕ → List ℕ → List ℕ → ℕ → ℕ → ℕ → Leaves
+appends ws ts out start d n = appendsBy ws ts out (tickStanding (record { 0 = start }) (recordOf ws .next)) d n
+
+unfoldable pub appendsStamp : List ℕ → List ℕ → List ℕ → ℕ → ℕ → ℕ → Leaves
+appendsStamp ws ts out stamp d n = appendsBy ws ts out (stampStanding (record { 0 = stamp }) (recordOf ws .next)) d n
 
 -- ---- the calls that look
 
@@ -106,20 +126,11 @@ tellsEdge ws ts out = tells ws 2 (edgeTells (coveredEdge (recordOf ws) ts)) out
 
 -- ---- the file
 
--- reading: the number, the record's words, the table's, and out, which has the refused line, 0 where the file is accepted
-pub record Reads : Type 0 where
-  pub number : ℕ
-  pub words : List ℕ
-  pub table : List ℕ
-  pub out : List ℕ
+-- reading: refused, record and table are zero; out has the refused line, 0 where the file is accepted, and the distance, 0 where there is none
+abbrev pub readsBy : List ℕ → List ℕ → List ℕ → ReadAnswer → List ℕ → Leaves
+readsBy ws ts out x new = leaves ws ts out 2 (x .outcome) (x .rec) new (x .line ∷ outcomeDistance (x .outcome) ∷ [])
 
--- by what the reading answers and the words that it leaves in the table: refused, both are zero
-unfoldable pub readsBy : List ℕ → List ℕ → List ℕ → ReadAnswer → List ℕ → Reads
-readsBy ws ts out x new =
-    guarded (wrongLength (length ws) (length out) 1) (λ wrong. record { number = wrong; words = ws; table = ts; out = out })
-    (record { number = outcomeNumber (x .outcome); words = wordsOf (x .rec); table = new; out = x .line ∷ [] })
-
-unfoldable pub reads : List ℕ → List ℕ → List ℕ → List ℕ → Reads
+unfoldable pub reads : List ℕ → List ℕ → List ℕ → List ℕ → Leaves
 reads bytes ws ts out = readsBy ws ts out (readAnswer bytes ts) (readTable bytes ts)
 
 -- writing: the number, the bytes, and out, which has the length

@@ -1,8 +1,13 @@
 -- What an answer tells: the paper's number of it, 0 where it is not refused, and in the caller's out its words, with 0 for what does not apply; refused,
 -- out stays as it came. Paper: Verdict and availability; Append and trim (by stamp); Refusal numbers.
 use Prim.Native.Nat.{ℕ}
+use mathlib.Core.Bool.{_||_}
 use mathlib.Core.List.{List, [], _∷_}
+use lib.Dec.{eqb}
 use lib.IntN.{ℤ, pos}
+use Rattle.agreement.specs.Rows.{_when_else_}
+use Rattle.keeping.specs.declared.Outcome.{Outcome}
+use Rattle.keeping.specs.Keeping.{outcomeNumber, outcomeDistance}
 use Rattle.answers.specs.declared.Verdict.{Verdict}
 use Rattle.answers.specs.declared.Verdict.the-variants as verdict
 use Rattle.answers.specs.Numbers.{verdictNumber, edgeNumber}
@@ -89,3 +94,7 @@ writeOut (written.Refused why) out = out
 
 unfoldable pub writeTells : WriteAnswer → List ℕ → Tells ℕ
 writeTells w out = record { number = writeNumber w; out = writeOut w out }
+
+-- the distance of a gap or an overlap; of every other outcome nothing is told
+unfoldable pub distanceOut : Outcome → List ℕ → List ℕ
+distanceOut o out = (outcomeDistance o ∷ []) when eqb (outcomeNumber o) 4 || eqb (outcomeNumber o) 5 else out

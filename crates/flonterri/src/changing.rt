@@ -1,9 +1,16 @@
 // The calls that change: open, append, trim. The record and the table are the caller's words.
 ghost use mathlib.Core.Path.{_≡_};
+ghost use lib.ListN.{length};
+ghost use Rattle.keeping.specs.Keeping.{outcomeNumber};
+ghost use Rattle.flonterri.specs.Words.{wordsOf};
+ghost use Rattle.flonterri.specs.Tells.{distanceOut};
 ghost use Rattle.flonterri.specs.Face.{opens, appends, appendsStamp, trims};
 use crate::packing::give_back;
 use crate::packing::record_of;
+use crate::packing::wrong_length;
 use crate::packing::wrong_record;
+use keeping::Changed;
+use keeping::Outcome;
 use units::Stamp;
 use units::WideMillis;
 use units::WideTick;
@@ -44,6 +51,41 @@ pub extern "C" fn flonterri_open(
     give_back(record, changed)
 }
 
+const DISTANCE_WORDS: usize = 1;
+
+// The numbers that a distance comes with: 4 and 5, and none between them.
+const GAP: u32 = 4;
+
+const OVERLAP: u32 = 5;
+
+// Inner, since out must have its length: puts the distance of a gap or an overlap there.
+fn put_distance(out: &mut [u64], outcome: Outcome)
+    requires { ⌜ length (now out) ≡ 1 ⌝ }
+    ensures { λ _. ⌜ now (out .exit) ≡ distanceOut outcome (now (out .entry)) ⌝ }
+{
+    let number = outcome.number();
+    if number < GAP {
+        return;
+    }
+    if OVERLAP < number {
+        return;
+    }
+    out[0] = outcome.distance();
+}
+
+// Inner, since record and out must have their lengths: writes back the record that an append answers and
+// its distance, and answers the number of its outcome.
+fn give_appended(words: &mut [u64], out: &mut [u64], changed: Changed) -> u32
+    requires { ⌜ (length (now words) ≡ 12) × (length (now out) ≡ 1) ⌝ }
+    ensures { λ r. ⌜ r ≡ outcomeNumber (changed .outcome) ⌝ }
+    ensures { λ _. ⌜ now (words .exit) ≡ wordsOf (changed .rec) ⌝ }
+    ensures { λ _. ⌜ now (out .exit) ≡ distanceOut (changed .outcome) (now (out .entry)) ⌝ }
+{
+    let outcome = changed.outcome;
+    put_distance(out, outcome);
+    give_back(words, changed)
+}
+
 // Appends references whose start is a full tick.
 #[no_mangle]
 pub extern "C" fn flonterri_append(
@@ -52,18 +94,20 @@ pub extern "C" fn flonterri_append(
     start: u64,
     duration: u32,
     count: u32,
+    out: &mut [u64],
 ) -> u32
-    ensures { λ r. ⌜ r ≡ appends (now («record» .entry)) (now (table .entry)) start duration count .number ⌝ }
-    ensures { λ _. ⌜ now («record» .exit) ≡ appends (now («record» .entry)) (now (table .entry)) start duration count .words ⌝ }
-    ensures { λ _. ⌜ now (table .exit) ≡ appends (now («record» .entry)) (now (table .entry)) start duration count .table ⌝ }
+    ensures { λ r. ⌜ r ≡ appends (now («record» .entry)) (now (table .entry)) (now (out .entry)) start duration count .number ⌝ }
+    ensures { λ _. ⌜ now («record» .exit) ≡ appends (now («record» .entry)) (now (table .entry)) (now (out .entry)) start duration count .words ⌝ }
+    ensures { λ _. ⌜ now (table .exit) ≡ appends (now («record» .entry)) (now (table .entry)) (now (out .entry)) start duration count .table ⌝ }
+    ensures { λ _. ⌜ now (out .exit) ≡ appends (now («record» .entry)) (now (table .entry)) (now (out .entry)) start duration count .out ⌝ }
 {
-    let wrong = wrong_record(record.len());
+    let wrong = wrong_length(record.len(), out.len(), DISTANCE_WORDS);
     if wrong != 0 {
         return wrong;
     }
     let rec = record_of(record);
     let changed = timeline::append(rec, table, WideTick(start), duration, count);
-    give_back(record, changed)
+    give_appended(record, out, changed)
 }
 
 // Appends references whose start is a 32-bit stamp.
@@ -74,18 +118,20 @@ pub extern "C" fn flonterri_append_stamp(
     stamp: u32,
     duration: u32,
     count: u32,
+    out: &mut [u64],
 ) -> u32
-    ensures { λ r. ⌜ r ≡ appendsStamp (now («record» .entry)) (now (table .entry)) stamp duration count .number ⌝ }
-    ensures { λ _. ⌜ now («record» .exit) ≡ appendsStamp (now («record» .entry)) (now (table .entry)) stamp duration count .words ⌝ }
-    ensures { λ _. ⌜ now (table .exit) ≡ appendsStamp (now («record» .entry)) (now (table .entry)) stamp duration count .table ⌝ }
+    ensures { λ r. ⌜ r ≡ appendsStamp (now («record» .entry)) (now (table .entry)) (now (out .entry)) stamp duration count .number ⌝ }
+    ensures { λ _. ⌜ now («record» .exit) ≡ appendsStamp (now («record» .entry)) (now (table .entry)) (now (out .entry)) stamp duration count .words ⌝ }
+    ensures { λ _. ⌜ now (table .exit) ≡ appendsStamp (now («record» .entry)) (now (table .entry)) (now (out .entry)) stamp duration count .table ⌝ }
+    ensures { λ _. ⌜ now (out .exit) ≡ appendsStamp (now («record» .entry)) (now (table .entry)) (now (out .entry)) stamp duration count .out ⌝ }
 {
-    let wrong = wrong_record(record.len());
+    let wrong = wrong_length(record.len(), out.len(), DISTANCE_WORDS);
     if wrong != 0 {
         return wrong;
     }
     let rec = record_of(record);
     let changed = timeline::append_stamp(rec, table, Stamp(stamp), duration, count);
-    give_back(record, changed)
+    give_appended(record, out, changed)
 }
 
 // Raises the greatest clock and drops what is spent then.

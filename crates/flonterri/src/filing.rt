@@ -1,7 +1,7 @@
 // The file: read whole from the caller's bytes, or written into them.
 ghost use mathlib.Core.Path.{_≡_};
 ghost use lib.ListN.{length, set};
-ghost use Rattle.keeping.specs.Keeping.{outcomeNumber};
+ghost use Rattle.keeping.specs.Keeping.{outcomeNumber, outcomeDistance};
 ghost use Rattle.flonterri.specs.Words.{wordsOf};
 ghost use Rattle.writing.specs.Writing.{writeNumber};
 ghost use Rattle.flonterri.specs.Tells.{writeOut};
@@ -12,7 +12,7 @@ use crate::packing::wrong_length;
 use file::ReadAnswer;
 use writing::WriteAnswer;
 
-const LINE_WORDS: usize = 1;
+const LINE_WORDS: usize = 2;
 
 const LENGTH_WORDS: usize = 1;
 
@@ -37,17 +37,18 @@ fn tell_written(out: &mut [u64], answer: WriteAnswer) -> u32
     answer.number()
 }
 
-// Inner, since record and out must have their lengths: writes back the record of a reading and its line,
-// and answers the number of its outcome.
+// Inner, since record and out must have their lengths: writes back the record of a reading, its line and
+// its distance, and answers the number of its outcome.
 fn give_read(words: &mut [u64], out: &mut [u64], answer: ReadAnswer) -> u32
-    requires { ⌜ (length (now words) ≡ 12) × (length (now out) ≡ 1) ⌝ }
+    requires { ⌜ (length (now words) ≡ 12) × (length (now out) ≡ 2) ⌝ }
     ensures { λ r. ⌜ r ≡ outcomeNumber (answer .outcome) ⌝ }
     ensures { λ _. ⌜ now (words .exit) ≡ wordsOf (answer .rec) ⌝ }
-    ensures { λ _. ⌜ now (out .exit) ≡ set (now (out .entry)) 0 (answer .line) ⌝ }
+    ensures { λ _. ⌜ now (out .exit) ≡ set (set (now (out .entry)) 0 (answer .line)) 1 (outcomeDistance (answer .outcome)) ⌝ }
 {
     put_record(words, answer.rec);
-    out[0] = answer.line;
     let outcome = answer.outcome;
+    out[0] = answer.line;
+    out[1] = outcome.distance();
     outcome.number()
 }
 

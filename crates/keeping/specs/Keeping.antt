@@ -12,7 +12,7 @@ use Rattle.agreement.specs.declared.Record.{Record}
 use Rattle.keeping.specs.declared.Outcome.{Outcome}
 use Rattle.keeping.specs.declared.Outcome.the-variants.{Accepted, Refused}
 use Rattle.keeping.specs.declared.Changed.{Changed}
-use Rattle.agreement.specs.Numbers.{refusalNumber}
+use Rattle.agreement.specs.Numbers.{refusalNumber, refusalDistance}
 
 -- those whose end has not passed. For a reference that lasts and starts before the period end, as every kept one does and every
 -- one of an accepted append, that is: not spent (`OnlySpent` of laws/specs/Spent.antt: `compared`, `trim`, `append`)
@@ -40,6 +40,11 @@ wordsKeeping ws stay = canonical (length ws) stay
 abbrev pub outcomeNumber : Outcome → ℕ
 outcomeNumber Accepted = 0
 outcomeNumber (Refused r) = refusalNumber r
+
+-- and the distance of a gap or an overlap, 0 of every other outcome
+abbrev pub outcomeDistance : Outcome → ℕ
+outcomeDistance Accepted = 0
+outcomeDistance (Refused r) = refusalDistance r
 
 -- a refused call returns the record as it came and changes no word
 unfoldable pub changedBy : Outcome → Record → Record → Changed

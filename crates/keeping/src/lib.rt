@@ -1,7 +1,7 @@
 // What a timeline keeps: which references a clock leaves, and the append that joins. Here is what stands
 // under the calls that change and under the reader of a file.
 ghost use mathlib.Core.Path.{_≡_};
-ghost use Rattle.keeping.specs.Keeping.{outcomeNumber};
+ghost use Rattle.keeping.specs.Keeping.{outcomeNumber, outcomeDistance};
 use agreement::Record;
 use agreement::Refusal;
 
@@ -25,6 +25,16 @@ impl Outcome {
         match self {
             Outcome::Accepted => 0,
             Outcome::Refused(why) => why.number(),
+        }
+    }
+
+    // How far the start of a refused append lies from the next tick, 0 where that is not why.
+    pub fn distance(self) -> u64
+        ensures { λ r. ⌜ r ≡ outcomeDistance self ⌝ }
+    {
+        match self {
+            Outcome::Accepted => 0,
+            Outcome::Refused(why) => why.distance(),
         }
     }
 }

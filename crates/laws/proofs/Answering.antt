@@ -1,5 +1,5 @@
 -- What a refused call leaves, by its outcome; and the number that C sees, by rows behind those of the lengths.
-use mathlib.Core.Path.{_≡_, refl, sym, ap, _∙_}
+use mathlib.Core.Path.{_≡_, refl, sym, ap, ap₂, _∙_}
 use mathlib.Core.Bool.{Bool, true, false, cond, not}
 use mathlib.Core.List.{List, [], _∷_}
 use Prim.Native.Nat.{ℕ, _+_, _≤_}
@@ -11,10 +11,11 @@ use lib.ListN.{length}
 use Rattle.units.proofs.Choice.{chosen, passed-over}
 use Rattle.agreement.specs.declared.Record.{Record}
 use Rattle.agreement.specs.declared.refusal.Refusal.the-variants as refusal
+use Rattle.agreement.specs.Rows.{_when_else_}
 use Rattle.keeping.specs.declared.Outcome.{Outcome}
 use Rattle.keeping.specs.declared.Outcome.the-variants.{Accepted, Refused}
 use Rattle.keeping.specs.declared.Changed.{Changed}
-use Rattle.keeping.specs.Keeping.{outcomeNumber, changedBy, wordsBy}
+use Rattle.keeping.specs.Keeping.{outcomeNumber, outcomeDistance, changedBy, wordsBy}
 use Rattle.timeline.specs.Opening.{zeroRecord}
 use Rattle.answers.specs.declared.Verdict.{Verdict}
 use Rattle.answers.specs.declared.Verdict.the-variants as verdict
@@ -43,12 +44,12 @@ use Rattle.writing.specs.declared.WriteAnswer.the-variants as written
 use Rattle.writing.specs.Writing.{writeNumber, outputBy}
 use Rattle.flonterri.specs.Words.{recordWords, wordsOf}
 use Rattle.flonterri.specs.Tells.{Tells, verdictTells, availabilityTells, touchingTells, edgeTells, writeTells, availableTells, fullTickTells}
-use Rattle.flonterri.specs.Face.{wrongRecord, wrongLength, guarded, changes, tells, readsBy, reads, writesBy, Changes as Seen, Reads as Readings, Writes as Wrote}
+use Rattle.flonterri.specs.Face.{wrongRecord, wrongLength, guarded, changes, tells, leaves, reads, writesBy, Changes as Seen, Leaves as Left, Writes as Wrote}
 use Rattle.flonterri.proofs.Refusing.{read-refused}
 use Rattle.flonterri.proofs.Lengths.{both-right, behind}
 use Rattle.agreement.proofs.Numbers.{refusal-some}
-use Rattle.laws.specs.Refusals.{lowest}
-use Rattle.laws.specs.Demand1.{GivesNumber, Changes, Only, Zeroes, Reads, Feeds, Finishes, recordRows, lengthRows, ChangesFromC, TellsC, ReadsFromC}
+use Rattle.laws.specs.Refusals.{lowest, isApart, distanceWith}
+use Rattle.laws.specs.Demand1.{GivesNumber, Changes, Only, Zeroes, Reads, Feeds, Finishes, recordRows, lengthRows, ChangesFromC, AppendsFromC, TellsC, ReadsFromC}
 use Rattle.laws.proofs.Reading.{reading-right}
 
 -- ---- Rattle's calls
@@ -125,6 +126,7 @@ reading bytes before x after e f =
     record {
       number = ap (λ y. outcomeNumber (y .outcome)) e ∙ reading-right .number bytes before;
       line = ap (λ y. y .line) e ∙ reading-right .line bytes before;
+      distance = ap (λ y. outcomeDistance (y .outcome)) e ∙ reading-right .distance bytes before;
       left = answered (readOutcome bytes before) (readLines bytes before .reading) (readLines bytes before .words) before x after e f;
     }
 
@@ -258,56 +260,86 @@ length-alone ws ts x new never = go (eqb (length ws) recordWords)
     go true e = absurd (never e)
     go false e = (refl, refl)
 
--- lengths that are not right leave all as it came
-module _ (bytes ws ts out : List ℕ) where
-  lengths-wrong : (lowest (lengthRows ws out 1 []) ≡ 0 → ⊥) →
-      (reads bytes ws ts out .number ≡ lowest (lengthRows ws out 1 [])) × (reads bytes ws ts out .words ≡ ws) × (reads bytes ws ts out .table ≡ ts) ×
-      (reads bytes ws ts out .out ≡ out)
-  unfolding reads readsBy guarded wrongLength
-  lengths-wrong = go (eqb (length ws) recordWords) (eqb (length out) 1)
-    where
-      at : Bool → Bool → Readings
-      at s t =
-          cond (eqb (cond s (cond t 0 15) 2) 0)
-          (record {
-            number = outcomeNumber (readAnswer bytes ts .outcome);
-            words = wordsOf (readAnswer bytes ts .rec);
-            table = readTable bytes ts;
-            out = readAnswer bytes ts .line ∷ [];
-          })
-          (record { number = cond s (cond t 0 15) 2; words = ws; table = ts; out = out })
+-- ---- C: the calls that change and tell
 
+module _ (ws ts out : List ℕ) (size : ℕ) (o : Outcome) (rec : Record) (new told : List ℕ) where
+  -- by the lengths
+  abbrev left : Bool → Bool → Left
+  left s t =
+      cond (eqb (cond s (cond t 0 15) 2) 0)
+      (record { number = outcomeNumber o; words = wordsOf rec; table = new; out = told })
+      (record { number = cond s (cond t 0 15) 2; words = ws; table = ts; out = out })
+
+  pub leaves-number : (rows : List (Bool × ℕ)) → outcomeNumber o ≡ lowest rows → leaves ws ts out size o rec new told .number ≡ lowest (lengthRows ws out size rows)
+  unfolding leaves guarded wrongLength
+  leaves-number rows e = go (eqb (length ws) recordWords) (eqb (length out) size)
+    where
+      go : (s t : Bool) → left s t .number ≡ lowest ((not s, 2) ∷ (not t, 15) ∷ rows)
+      go true true = e
+      go true false = refl
+      go false t = refl
+
+  -- lengths that are not right leave all as it came
+  lengths-wrong : (lowest (lengthRows ws out size []) ≡ 0 → ⊥) →
+      let x = leaves ws ts out size o rec new told in
+      (x .number ≡ lowest (lengthRows ws out size [])) × (x .words ≡ ws) × (x .table ≡ ts) × (x .out ≡ out)
+  unfolding leaves guarded wrongLength
+  lengths-wrong = go (eqb (length ws) recordWords) (eqb (length out) size)
+    where
       go : (s t : Bool) → (lowest ((not s, 2) ∷ (not t, 15) ∷ []) ≡ 0 → ⊥) →
-          (at s t .number ≡ lowest ((not s, 2) ∷ (not t, 15) ∷ [])) × (at s t .words ≡ ws) × (at s t .table ≡ ts) × (at s t .out ≡ out)
+          (left s t .number ≡ lowest ((not s, 2) ∷ (not t, 15) ∷ [])) × (left s t .words ≡ ws) × (left s t .table ≡ ts) × (left s t .out ≡ out)
       go true true k = absurd (k refl)
       go true false k = (refl, refl, refl, refl)
       go false t k = (refl, refl, refl, refl)
 
-  lengths-right : lowest (lengthRows ws out 1 []) ≡ 0 → (length ws ≡ recordWords) × (length out ≡ 1)
-  lengths-right e = let r = go (eqb (length ws) recordWords) (eqb (length out) 1) e in (eqb-true _ _ (r .0), eqb-true _ _ (r .1))
+  lengths-right : lowest (lengthRows ws out size []) ≡ 0 → (length ws ≡ recordWords) × (length out ≡ size)
+  lengths-right e = let r = go (eqb (length ws) recordWords) (eqb (length out) size) e in (eqb-true _ _ (r .0), eqb-true _ _ (r .1))
     where
       go : (s t : Bool) → lowest ((not s, 2) ∷ (not t, 15) ∷ []) ≡ 0 → (s ≡ true) × (t ≡ true)
       go true true e = (refl, refl)
       go true false e = let z : ⊥ = omega arith in absurd z
       go false t e = let z : ⊥ = omega arith in absurd z
 
-  lengths-passed : lowest (lengthRows ws out 1 []) ≡ 0 →
-      (reads bytes ws ts out .number ≡ outcomeNumber (readAnswer bytes ts .outcome)) × (reads bytes ws ts out .out ≡ readAnswer bytes ts .line ∷ [])
-  unfolding reads readsBy
+  lengths-passed : lowest (lengthRows ws out size []) ≡ 0 →
+      let x = leaves ws ts out size o rec new told in
+      (x .number ≡ outcomeNumber o) × (x .out ≡ told)
+  unfolding leaves
   lengths-passed e =
       let l = lengths-right e in
-      let r = sym (behind _ _ _ 0 (both-right _ _ 1 (l .0) (l .1)) refl) in (ap (λ (y : Readings). y .number) r, ap (λ (y : Readings). y .out) r)
+      let r = sym (behind _ _ _ 0 (both-right _ _ size (l .0) (l .1)) refl) in (ap (λ (y : Left). y .number) r, ap (λ (y : Left). y .out) r)
 
-  pub reads-c : (x : ℕ) (words table line : List ℕ) → x ≡ reads bytes ws ts out .number → words ≡ reads bytes ws ts out .words →
-      table ≡ reads bytes ws ts out .table → line ≡ reads bytes ws ts out .out → ReadsFromC bytes x ws ts out words table line
-  reads-c x words table line e f g h =
+pub appends-c : (ws ts out : List ℕ) (rows : List (Bool × ℕ)) (ahead behind : ℕ) (left : Left) → left .number ≡ lowest (lengthRows ws out 1 rows) →
+    ((left .number ≡ 0 → ⊥) → (left .words ≡ ws) × (left .table ≡ ts)) →
+    left .out ≡ ((distanceWith (left .number) ahead behind ∷ []) when isApart (left .number) else out) →
+    (x : ℕ) (words table told : List ℕ) → x ≡ left .number → words ≡ left .words → table ≡ left .table → told ≡ left .out →
+    AppendsFromC x ws ts out words table told rows ahead behind
+appends-c ws ts out rows ahead behind left number leaves distance x words table told e f g h =
+    record {
+      number = e ∙ number;
+      refused = λ k. let l = leaves (λ z. k (e ∙ z)) in (f ∙ l .0, g ∙ l .1);
+      distance = h ∙ distance ∙ ap (λ (n : ℕ). (distanceWith n ahead behind ∷ []) when isApart n else out) (sym e);
+    }
+
+module _ (bytes ws ts out : List ℕ) where
+  abbrev answer : ReadAnswer
+  answer = readAnswer bytes ts
+
+  abbrev said : List ℕ
+  said = answer .line ∷ outcomeDistance (answer .outcome) ∷ []
+
+  pub reads-c : (x : ℕ) (words table told : List ℕ) → x ≡ reads bytes ws ts out .number → words ≡ reads bytes ws ts out .words →
+      table ≡ reads bytes ws ts out .table → told ≡ reads bytes ws ts out .out → ReadsFromC bytes x ws ts out words table told
+  unfolding reads
+  reads-c x words table told e f g h =
       record {
-        lengths = λ k. let l = lengths-wrong k in (e ∙ l .0, f ∙ l .1, g ∙ l .2, h ∙ l .3);
-        number = λ z. e ∙ lengths-passed z .0 ∙ reading-right .number bytes ts;
-        line = λ z. h ∙ lengths-passed z .1 ∙ ap (λ (n : ℕ). n ∷ []) (reading-right .line bytes ts);
+        lengths = λ k. let l = lengths-wrong ws ts out 2 (answer .outcome) (answer .rec) (readTable bytes ts) said k in (e ∙ l .0, f ∙ l .1, g ∙ l .2, h ∙ l .3);
+        number = λ z. e ∙ lengths-passed ws ts out 2 (answer .outcome) (answer .rec) (readTable bytes ts) said z .0 ∙ reading-right .number bytes ts;
+        line = λ z.
+            h ∙ lengths-passed ws ts out 2 (answer .outcome) (answer .rec) (readTable bytes ts) said z .1 ∙
+            ap₂ (λ (n m : ℕ). n ∷ m ∷ []) (reading-right .line bytes ts) (reading-right .distance bytes ts);
         refused = λ z k.
-            let l = lengths-right z in
-            let r = read-refused bytes ws ts out (l .0) (l .1) (λ n. k (e ∙ n)) in (f ∙ r .0, g ∙ r .1 .0);
+            let l = lengths-right ws ts out 2 (answer .outcome) (answer .rec) (readTable bytes ts) said z in
+            let r = read-refused bytes ws ts out (l .0) (l .1) (λ n. k (e ∙ n)) in (f ∙ r .0, g ∙ r .1);
       }
 
 pub writes-c : (ws bytes out : List ℕ) (rows : List (Bool × ℕ)) (wrote : Wrote) → wrote .number ≡ lowest (lengthRows ws out 1 rows) →

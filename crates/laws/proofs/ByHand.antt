@@ -51,7 +51,7 @@ use Rattle.writing.specs.declared.WriteAnswer.the-variants.{Written, Refused as
 use Rattle.writing.specs.Writing as writing
 use Rattle.writing.specs.Writing.{fileFor, writeAnswer, writeNumber, outputBy}
 use Rattle.laws.specs.Calls.{State}
-use Rattle.laws.specs.ByHand.{ByHand, wide, millis, number, headA, headB, headD, appending, appendOf, trimming, trimOf, bothA, fiveB, trimB1, trimB2, trimB3, headLineB, fileB, oneD, twoD, fileD, stateOf}
+use Rattle.laws.specs.ByHand.{ByHand, gapBy, wide, millis, number, headA, headB, headD, appending, appendOf, trimming, trimOf, bothA, fiveB, trimB1, trimB2, trimB3, headLineB, fileB, oneD, twoD, fileD, stateOf}
 use Rattle.laws.specs.Demand2.{output}
 use Rattle.laws.proofs.Files.{written}
 
@@ -81,7 +81,7 @@ stateD2 = stateOf headD 2 0 2 0 1 (0 ∷ 1 ∷ 2 ∷ [])
 -- each call from the state that stands before it
 record Steps : Type 0 where
   a : bothA ≡ stateA
-  a-gap : outcomeNumber (appendOf stateA 170 10 1) ≡ 4
+  a-gap : appendOf stateA 170 10 1 ≡ gapBy 9
   b : fiveB ≡ stateB
   b-13999 : trimOf stateB 13_999 ≡ outcome.Accepted
   b-none : trimming stateB 13_999 ≡ stateB1
@@ -220,7 +220,7 @@ by-hand =
       a-second = refl;
       a-next = refl;
       a-state = steps .a;
-      a-gap = ap (λ s. outcomeNumber (appendOf s 170 10 1)) (steps .a) ∙ steps .a-gap;
+      a-gap = ap (λ s. appendOf s 170 10 1) (steps .a) ∙ steps .a-gap;
       a-available =
           ap (λ s. availabilityIn (s .rec) (s .words) (number 0)) (steps .a) ∙
           ap (λ t. cond t (numberAvailability headA (keptNumber (stateA .rec) (stateA .words) 0)) (answer.Refused Disagreement)) (agreed .a);

@@ -109,8 +109,8 @@ module _ (rec : Record) (ws : List ℕ) (d n : ℕ) where
           ((not a, 2) ∷ (z, 3) ∷ (eqb (standingNumber st) 4, 4) ∷ (eqb (standingNumber st) 5, 5) ∷ (not e, 6) ∷ (not c, 7) ∷ (not b, 8) ∷ (not r, 9) ∷ [])
       by false z st e c b r = refl
       by true true st e c b r = refl
-      by true false Gap e c b r = refl
-      by true false Overlap e c b r = refl
+      by true false (Gap d) e c b r = refl
+      by true false (Overlap d) e c b r = refl
       by true false Joins false c b r = refl
       by true false Joins true false b r = refl
       by true false Joins true true false r = refl
@@ -166,15 +166,15 @@ module _ (rec : Record) (ws : List ℕ) (d n : ℕ) where
       (not-every (λ r. beforeEnd (rec .head) (r .start .0)) (given rec d n) .is)
 
 -- how a start stands, by two tests
-pub gap-is : (joined ahead : Bool) → eqb (standingNumber (standingBy joined ahead)) 4 ≡ (not joined && ahead)
-gap-is true ahead = refl
-gap-is false true = refl
-gap-is false false = refl
+pub gap-is : (a b : ℕ) (joined ahead : Bool) → eqb (standingNumber (standingBy joined ahead a b)) 4 ≡ (not joined && ahead)
+gap-is a b true ahead = refl
+gap-is a b false true = refl
+gap-is a b false false = refl
 
-pub overlap-is : (joined ahead : Bool) → eqb (standingNumber (standingBy joined ahead)) 5 ≡ (not joined && not ahead)
-overlap-is true ahead = refl
-overlap-is false true = refl
-overlap-is false false = refl
+pub overlap-is : (a b : ℕ) (joined ahead : Bool) → eqb (standingNumber (standingBy joined ahead a b)) 5 ≡ (not joined && not ahead)
+overlap-is a b true ahead = refl
+overlap-is a b false true = refl
+overlap-is a b false false = refl
 
 module _ (start next : ℕ) where
   pub after : (not (eqb start next) && ltb next start) ≡ ltb next start
@@ -202,8 +202,8 @@ module _ (rec : Record) (ws : List ℕ) (d n : ℕ) (narrow : d ≤ largestSpan)
       lowest (appendTickRows rec ws start d n)
   append start =
       by-words rec ws d n narrow (tickStanding start (rec .next)) (ltb (rec .next .0) (start .0)) (ltb (start .0) (rec .next .0))
-      (gap-is (eqb (start .0) (rec .next .0)) (ltb (rec .next .0) (start .0)) ∙ after (start .0) (rec .next .0))
-      (overlap-is (eqb (start .0) (rec .next .0)) (ltb (rec .next .0) (start .0)) ∙ before (start .0) (rec .next .0))
+      (gap-is _ _ (eqb (start .0) (rec .next .0)) (ltb (rec .next .0) (start .0)) ∙ after (start .0) (rec .next .0))
+      (overlap-is _ _ (eqb (start .0) (rec .next .0)) (ltb (rec .next .0) (start .0)) ∙ before (start .0) (rec .next .0))
       _ rec
 
   pub append-stamp : (stamp : Stamp) → outcomeNumber (appendAnswer rec ws (stampStanding stamp (rec .next)) d n .outcome) ≡
@@ -211,8 +211,8 @@ module _ (rec : Record) (ws : List ℕ) (d n : ℕ) (narrow : d ≤ largestSpan)
   append-stamp stamp =
       let m = less32 (stamp .0) (rec .next .0) in
       by-words rec ws d n narrow (stampStanding stamp (rec .next)) _ _
-      (gap-is (eqb m 0) (ltb m (2 ^ 31)) ∙ ap (λ t. t && ltb m (2 ^ 31)) (some-is m))
-      (overlap-is (eqb m 0) (ltb m (2 ^ 31)) ∙ far m)
+      (gap-is _ _ (eqb m 0) (ltb m (2 ^ 31)) ∙ ap (λ t. t && ltb m (2 ^ 31)) (some-is m))
+      (overlap-is _ _ (eqb m 0) (ltb m (2 ^ 31)) ∙ far m)
       _ rec
     where
       some-is : (m : ℕ) → not (eqb m 0) ≡ ltb 0 m

@@ -167,8 +167,8 @@ appends rec ws st d n l =
     by true true z st o = refl
     by true false true st o = refl
     by true false false Joins o = last (outcomeNumber o)
-    by true false false Gap o = refl
-    by true false false Overlap o = refl
+    by true false false (Gap d) o = refl
+    by true false false (Overlap d) o = refl
 
 -- ---- at a clock
 

@@ -3,15 +3,17 @@
 use mathlib.Core.Path.{_≡_, sym, ap, _∙_}
 use mathlib.Core.Bool.{Bool, true, false, cond}
 use mathlib.Core.List.{List}
-use Prim.Native.Nat.{ℕ, _≤_}
+use Prim.Native.Nat.{ℕ, _-_, _^_, _≤_, _<_}
 use native.Mathlib.Omega.{arith}
 use denote.Ref.{now}
 use lib.IntN.{ℤ}
 use lib.ListN.{length}
 use Rattle.units.specs.declared.Tick.{Tick}
 use Rattle.units.specs.Limits.{largestSpan, tickOf}
-use Rattle.units.specs.Standing.{tickStanding, stampStanding}
+use Rattle.units.specs.Standing.{less32, tickStanding, stampStanding}
 use Rattle.window.specs.Limits.{headOf}
+use Rattle.keeping.specs.declared.Changed.{Changed}
+use Rattle.keeping.specs.Keeping.{outcomeNumber, outcomeDistance}
 use Rattle.timeline.specs.Opening.{openOutcome, openAnswer, openTable, zeroRecord}
 use Rattle.timeline.specs.Appending.{appendOutcome}
 use Rattle.timeline.specs.Trimming.{trimOutcome}
@@ -27,14 +29,20 @@ use Rattle.flonterri.specs.Words.{recordOf, headWith}
 use Rattle.flonterri.specs.Tells.{verdictTells, availabilityTells, touchingTells, availableTells, fullTickTells, edgeTells}
 use Rattle.flonterri.specs.Face.{opens, appends, appendsStamp, trims, tellsVerdict, tellsWhole, tellsAvailability, tellsTouching, writes, tellsAvailable, tellsFullTick, tellsEdge}
 use Rattle.flonterri.proofs.Refusing as refusing
-use Rattle.laws.specs.Refusals.{lowest, overLimit, openRows, appendTickRows, appendStampRows, trimRows, verdictRows, wholeRows, availabilityRows, touchingRows, writeRows, availableRows, fullTickRows, edgeRows}
-use Rattle.laws.specs.Demand1.{GivesNumber, lengthRows, ChangesFromC, OpensFromC, TellsC, Answers, Demand1}
+use Rattle.laws.specs.Refusals.{lowest, distanceWith, overLimit, openRows, appendTickRows, appendStampRows, trimRows, verdictRows, wholeRows, availabilityRows, touchingRows, writeRows, availableRows, fullTickRows, edgeRows}
+use Rattle.laws.specs.Demand1.{GivesNumber, lengthRows, ChangesFromC, AppendsFromC, OpensFromC, TellsC, Answers, Demand1}
 use Rattle.laws.proofs.Refusals.{refusals}
-use Rattle.laws.proofs.Answering.{full-only, available-told, full-told, changing, verdict-only, availability-only, available-only, touching-only, no-part, write-leaves, reading, feeding, finishing, changes-number, tells-number, verdict-told, availability-told, touching-told, writes-number, changes-c, tells-c, length-alone, reads-c, writes-c, edge-only, edge-told}
+use Rattle.laws.proofs.Distances.{tick-far, stamp-far, append-told}
+use Rattle.laws.proofs.Answering.{appends-c, leaves-number, full-only, available-told, full-told, changing, verdict-only, availability-only, available-only, touching-only, no-part, write-leaves, reading, feeding, finishing, changes-number, tells-number, verdict-told, availability-told, touching-told, writes-number, changes-c, tells-c, length-alone, reads-c, writes-c, edge-only, edge-told}
 
 -- a number, and what is left where it refuses, of an answer that equals another
 moved : {A : Type 0} {left : Type 0} {rows : List (Bool × ℕ)} (f : A → ℕ) (x y : A) → x ≡ y → f y ≡ lowest rows → ((f x ≡ 0 → ⊥) → left) → GivesNumber (f x) rows left
 moved f x y e number left = record { number = ap f e ∙ number; refused = left }
+
+-- the distance of an append that equals another
+passed : (x y : Changed) (a b : ℕ) → x ≡ y → outcomeDistance (y .outcome) ≡ distanceWith (outcomeNumber (y .outcome)) a b →
+    outcomeDistance (x .outcome) ≡ distanceWith (outcomeNumber (x .outcome)) a b
+passed x y a b e told = ap (λ z. outcomeDistance (z .outcome)) e ∙ told ∙ ap (λ z. distanceWith (outcomeNumber (z .outcome)) a b) (sym e)
 
 module _ (ws ts : List ℕ) (scale offset start duration depth first update tick : ℕ) where
   -- an opening is refused with 1 alone
@@ -60,22 +68,38 @@ module _ (ws ts : List ℕ) (scale offset start duration depth first update tick
 -- ---- C's calls, behind the lengths
 
 module _ (ws ts : List ℕ) where
-  module _ (start d n : ℕ) (narrow : d ≤ largestSpan) where
-    appends-c : (x : ℕ) (words table : List ℕ) → x ≡ appends ws ts start d n .number → words ≡ appends ws ts start d n .words → table ≡ appends ws ts start d n .table →
-        ChangesFromC x ws ts words table (appendTickRows (recordOf ws) ts (record { 0 = start }) d n)
+  module _ (out : List ℕ) (start d n : ℕ) (narrow : d ≤ largestSpan) where
+    by-tick : (x : ℕ) (words table told : List ℕ) → x ≡ appends ws ts out start d n .number → words ≡ appends ws ts out start d n .words →
+        table ≡ appends ws ts out start d n .table → told ≡ appends ws ts out start d n .out →
+        AppendsFromC x ws ts out words table told (appendTickRows (recordOf ws) ts (record { 0 = start }) d n)
+        (start - recordOf ws .next .0) (recordOf ws .next .0 - start)
     unfolding appends
-    appends-c x words table e f g =
+    by-tick x words table told e f g h =
         let rows = appendTickRows (recordOf ws) ts (record { 0 = start }) d n in
-        changes-c ws ts rows (appends ws ts start d n)
-        (changes-number ws ts _ _ rows (refusals .append (recordOf ws) ts (record { 0 = start }) d n narrow)) (refusing.append-refused ws ts start d n) x words table e f g
+        let next = recordOf ws .next .0 in
+        let o = appendOutcome (recordOf ws) ts (tickStanding (record { 0 = start }) (recordOf ws .next)) d n in
+        appends-c ws ts out rows (start - next) (next - start) (appends ws ts out start d n)
+        (leaves-number ws ts out 1 _ _ _ _ rows (refusals .append (recordOf ws) ts (record { 0 = start }) d n narrow))
+        (refusing.refused-appends ws ts out _ _ o)
+        (refusing.distance-told ws ts out _ _ (λ m. distanceWith m (start - next) (next - start)) o
+        (append-told _ _ (recordOf ws) ts _ d n (tick-far (record { 0 = start }) (recordOf ws .next)) .distance))
+        x words table told e f g h
 
-    stamps-c : (x : ℕ) (words table : List ℕ) → x ≡ appendsStamp ws ts start d n .number → words ≡ appendsStamp ws ts start d n .words →
-        table ≡ appendsStamp ws ts start d n .table → ChangesFromC x ws ts words table (appendStampRows (recordOf ws) ts (record { 0 = start }) d n)
+    by-stamp : start < 2 ^ 32 → (x : ℕ) (words table told : List ℕ) → x ≡ appendsStamp ws ts out start d n .number →
+        words ≡ appendsStamp ws ts out start d n .words → table ≡ appendsStamp ws ts out start d n .table → told ≡ appendsStamp ws ts out start d n .out →
+        AppendsFromC x ws ts out words table told (appendStampRows (recordOf ws) ts (record { 0 = start }) d n)
+        (less32 start (recordOf ws .next .0)) (less32 (recordOf ws .next .0) start)
     unfolding appendsStamp
-    stamps-c x words table e f g =
+    by-stamp small x words table told e f g h =
         let rows = appendStampRows (recordOf ws) ts (record { 0 = start }) d n in
-        changes-c ws ts rows (appendsStamp ws ts start d n)
-        (changes-number ws ts _ _ rows (refusals .append-stamp (recordOf ws) ts (record { 0 = start }) d n narrow)) (refusing.append-stamp-refused ws ts start d n) x words table e f g
+        let next = recordOf ws .next .0 in
+        let o = appendOutcome (recordOf ws) ts (stampStanding (record { 0 = start }) (recordOf ws .next)) d n in
+        appends-c ws ts out rows (less32 start next) (less32 next start) (appendsStamp ws ts out start d n)
+        (leaves-number ws ts out 1 _ _ _ _ rows (refusals .append-stamp (recordOf ws) ts (record { 0 = start }) d n narrow))
+        (refusing.refused-appends ws ts out _ _ o)
+        (refusing.distance-told ws ts out _ _ (λ m. distanceWith m (less32 start next) (less32 next start)) o
+        (append-told _ _ (recordOf ws) ts _ d n (stamp-far (record { 0 = start }) (recordOf ws .next) small) .distance))
+        x words table told e f g h
 
   trims-c : (c x : ℕ) (words table : List ℕ) → x ≡ trims ws ts c .number → words ≡ trims ws ts c .words → table ≡ trims ws ts c .table →
       ChangesFromC x ws ts words table (trimRows (recordOf ws) ts (record { 0 = c }))
@@ -173,12 +197,20 @@ demand-1 =
           changing (openOutcome h t) _ zeroRecord _ (now table) (openRows h t) (refusals .opening h t) x _ (p .0) (p .1));
       append =
           answered (λ κs (rec, (table, (start, (d, (n, _))))) x e p narrow.
-          changing (appendOutcome rec (now table) (tickStanding start (rec .next)) d n) _ rec _ (now table) _
-          (refusals .append rec (now table) start d n narrow) x _ (p .0) (p .1));
+          record {
+            changes =
+                changing (appendOutcome rec (now table) (tickStanding start (rec .next)) d n) _ rec _ (now table) _
+                (refusals .append rec (now table) start d n narrow) x _ (p .0) (p .1);
+            distance = passed x _ _ _ (p .0) (refusals .append-distance rec (now table) start d n);
+          });
       append-stamp =
-          answered (λ κs (rec, (table, (stamp, (d, (n, _))))) x e p narrow.
-          changing (appendOutcome rec (now table) (stampStanding stamp (rec .next)) d n) _ rec _ (now table) _
-          (refusals .append-stamp rec (now table) stamp d n narrow) x _ (p .0) (p .1));
+          answered (λ κs (rec, (table, (stamp, (d, (n, _))))) x e p narrow small.
+          record {
+            changes =
+                changing (appendOutcome rec (now table) (stampStanding stamp (rec .next)) d n) _ rec _ (now table) _
+                (refusals .append-stamp rec (now table) stamp d n narrow) x _ (p .0) (p .1);
+            distance = passed x _ _ _ (p .0) (refusals .stamp-distance rec (now table) stamp d n small);
+          });
       trim =
           answered (λ κs (rec, (table, (clock, _))) x e p.
           changing (trimOutcome rec (now table) clock) _ rec _ (now table) _ (refusals .trim rec (now table) clock) x _ (p .0) (p .1));
@@ -215,11 +247,11 @@ demand-1 =
           answered (λ κs (rec, (table, (scale, (offset, (start, (duration, (depth, (number, (update, (tick, _)))))))))) x e p.
           opens-c (now rec) (now table) scale offset start duration depth number update tick x _ _ (p .0) (p .1 .0) (p .1 .1));
       c-append =
-          answered (λ κs (rec, (table, (start, (d, (n, _))))) x e p narrow.
-          appends-c (now rec) (now table) start d n narrow x _ _ (p .0) (p .1 .0) (p .1 .1));
+          answered (λ κs (rec, (table, (start, (d, (n, (out, _)))))) x e p narrow.
+          by-tick (now rec) (now table) (now out) start d n narrow x _ _ _ (p .0) (p .1 .0) (p .1 .1 .0) (p .1 .1 .1));
       c-append-stamp =
-          answered (λ κs (rec, (table, (stamp, (d, (n, _))))) x e p narrow.
-          stamps-c (now rec) (now table) stamp d n narrow x _ _ (p .0) (p .1 .0) (p .1 .1));
+          answered (λ κs (rec, (table, (stamp, (d, (n, (out, _)))))) x e p narrow small.
+          by-stamp (now rec) (now table) (now out) stamp d n narrow small x _ _ _ (p .0) (p .1 .0) (p .1 .1 .0) (p .1 .1 .1));
       c-trim = answered (λ κs (rec, (table, (clock, _))) x e p. trims-c (now rec) (now table) clock x _ _ (p .0) (p .1 .0) (p .1 .1));
       c-verdict = answered (λ κs (rec, (table, (clock, (out, _)))) x e p. verdict-c (now rec) (now table) clock (now out) x _ (p .0) (p .1));
       c-verdict-whole = answered (λ κs (rec, (table, (out, _))) x e p. whole-c (now rec) (now table) (now out) x _ (p .0) (p .1));

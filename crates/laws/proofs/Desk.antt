@@ -16,7 +16,7 @@ use Rattle.agreement.specs.declared.Record.{Record}
 use Rattle.agreement.specs.declared.refusal.Refusal.{Refusal}
 use Rattle.agreement.specs.declared.refusal.Refusal.the-variants as refusal
 use Rattle.agreement.specs.Agreement.{kept, agrees}
-use Rattle.agreement.specs.Numbers.{refusalNumber}
+use Rattle.agreement.specs.Numbers.{refusalNumber, refusalDistance}
 use Rattle.keeping.specs.declared.Outcome.{Outcome}
 use Rattle.keeping.specs.declared.Outcome.the-variants as outcome
 use Rattle.timeline.specs.Opening.{zeroRecord}
@@ -40,7 +40,7 @@ use Rattle.report.specs.declared.ClockLine.the-variants as asked
 use Rattle.report.specs.declared.Reply.the-variants as reply
 use Rattle.frames.specs.Fields.{allOnes}
 use Rattle.report.specs.Clock.{askedBy, askedOn}
-use Rattle.report.specs.Text.{PercentRight, refusedText, verdictText, textOf}
+use Rattle.report.specs.Text.{PercentRight, distanceText, refusedText, verdictText, textOf}
 use Rattle.report.specs.Answer.{askedIn, replyOn, replyIn, answerIn, answer}
 use Rattle.file.proofs.Cuts.{unfed-line, unfed-has, unfed-behind}
 use Rattle.report.proofs.Figures.{figures}
@@ -331,16 +331,16 @@ module _ (input : List ℕ) where
       go true e (frame.Clock c) g = absurd (n (c .0) (behindFirst input) (asks-of input c e g))
       go true e frame.Bad g = refl
 
-  tell-refused : (number line : ℕ) → Refused input number line → answer input ≡ refusedLine number line
-  unfolding replyOn textOf verdictText refusedText
-  tell-refused _ _ (no-clock n) = in-lent input ∙ ap textOf (unasked lent n)
-  tell-refused _ _ (desk.over clock file a l n) =
+  tell-refused : (number line distance : ℕ) → Refused input number line distance → answer input ≡ refusedLine number line distance
+  unfolding replyOn textOf verdictText refusedText distanceText
+  tell-refused _ _ _ (no-clock n) = in-lent input ∙ ap textOf (unasked lent n)
+  tell-refused _ _ _ (desk.over clock file a l n) =
       by-asked input clock file a (asked.Refused refusal.ClockLimit) (ask-over clock l n) (readAnswer file lent) refl (readTable file lent) refl
-  tell-refused _ _ (bad-line clock file why line a (at-clock l) e) =
+  tell-refused _ _ _ (bad-line clock file why line a (at-clock l) e) =
       by-asked input clock file a (asked.At (record { 0 = clock })) (ask-at clock l) _ e (readTable file lent) refl
-  tell-refused _ _ (bad-line clock file why line a (of-whole f) e) =
+  tell-refused _ _ _ (bad-line clock file why line a (of-whole f) e) =
       by-asked input clock file a asked.Whole (ask-whole clock f) _ e (readTable file lent) refl
-  tell-refused _ _ (no-end file rec ws a x f) =
+  tell-refused _ _ _ (no-end file rec ws a x f) =
       by-asked input allOnes file a asked.Whole (ask-whole allOnes refl) _ (x .answer) ws (x .table) ∙
       ap verdictText (demand-2 .refused-whole rec ws refusal.EndUnknown .if (unknown (agreed file rec ws x) f))
 
@@ -348,8 +348,8 @@ module _ (input : List ℕ) where
 
 module _ (input : List ℕ) where
   -- a refusal, a verdict, and the line that tells it
-  say-refused : (number line : ℕ) → Refused input number line → Says input (answer input)
-  say-refused number line r = subst⁻¹ (Says input) (tell-refused input number line r) (desk.refused number line r)
+  say-refused : (number line distance : ℕ) → Refused input number line distance → Says input (answer input)
+  say-refused number line distance r = subst⁻¹ (Says input) (tell-refused input number line distance r) (desk.refused number line distance r)
 
   say-told : (rec : Record) (ws : List ℕ) (w : Stretch) → ReadAs input rec ws w → Says input (answer input)
   say-told rec ws w h = let j = judged input rec ws w h in go (j .v) refl
@@ -378,7 +378,7 @@ module _ (input : List ℕ) where
           where
             by-end : (t : Bool) → eqb (rec .head .duration .0) 0 ≡ t → Says input (answer input)
             by-end true d =
-                say-refused 19 0
+                say-refused 19 0 0
                 (no-end file rec (readTable file lent) (subst (λ (c : ℕ). Asks input c file) e a) x (eqb-true (rec .head .duration .0) 0 d))
             by-end false d =
                 let some : rec .head .duration .0 ≡ 0 → ⊥ = eqb-false (rec .head .duration .0) 0 d in
@@ -387,7 +387,7 @@ module _ (input : List ℕ) where
 
         go : Reads (readAnswer file lent) → Says input (answer input)
         go (reads rec e) = accepted rec (record { answer = e; table = refl }) q
-        go (fails why line e) = say-refused (refusalNumber why) line (bad-line clock file why line a q e)
+        go (fails why line e) = say-refused (refusalNumber why) line (refusalDistance why) (bad-line clock file why line a q e)
 
     say-asked : Says input (answer input)
     say-asked = go (leb clock largestMillis) refl (eqb clock allOnes) refl
@@ -395,11 +395,11 @@ module _ (input : List ℕ) where
         go : (s : Bool) → leb clock largestMillis ≡ s → (t : Bool) → eqb clock allOnes ≡ t → Says input (answer input)
         go true e t f = say-read (at-clock (leb-true clock largestMillis e))
         go false e true f = say-read (of-whole (eqb-true clock allOnes f))
-        go false e false f = say-refused 10 0 (desk.over clock file a (leb-false clock largestMillis e) (eqb-false clock allOnes f))
+        go false e false f = say-refused 10 0 0 (desk.over clock file a (leb-false clock largestMillis e) (eqb-false clock allOnes f))
 
   -- a first line that is no clock's
   other-line : (f : Frame) → frameOf (firstLine input) ≡ f → (kindOf f ≡ 4 → ⊥) → Says input (answer input)
-  other-line f e n = say-refused 16 0 (no-clock (λ clock file a. n (ap kindOf (sym e ∙ line-frame input clock file a))))
+  other-line f e n = say-refused 16 0 0 (no-clock (λ clock file a. n (ap kindOf (sym e ∙ line-frame input clock file a))))
 
   -- a head of either kind has none of a clock
   not-four : (u : UpdateField) → headKind u ≡ 4 → ⊥
@@ -410,7 +410,7 @@ module _ (input : List ℕ) where
   says = go (hasFeed input) refl (frameOf (firstLine input)) refl
     where
       go : (t : Bool) → hasFeed input ≡ t → (f : Frame) → frameOf (firstLine input) ≡ f → Says input (answer input)
-      go false e f g = say-refused 16 0 (no-clock (λ clock file a. false≢true (sym e ∙ input-fed input clock file a)))
+      go false e f g = say-refused 16 0 0 (no-clock (λ clock file a. false≢true (sym e ∙ input-fed input clock file a)))
       go true e (frame.Head h) g = other-line (frame.Head h) g (not-four (h .update))
       go true e (frame.S s) g = other-line (frame.S s) g (λ z. omega arith)
       go true e (frame.End m) g = other-line (frame.End m) g (λ z. omega arith)
@@ -428,28 +428,28 @@ module _ (input : List ℕ) where
   is-complete _ (desk.complete n c) e = (n, refl, c)
   is-complete _ (desk.lacking n m k c) e = let z : ⊥ = omega arith in absurd z
   is-complete _ (desk.nothing c) e = let z : ⊥ = omega arith in absurd z
-  is-complete _ (desk.refused number line c) e = let z : ⊥ = omega arith in absurd z
+  is-complete _ (desk.refused number line distance c) e = let z : ⊥ = omega arith in absurd z
 
   is-lacking : (l : List ℕ) → Says input l → letter l ≡ 108 → (n : ℕ) × (m : ℕ) × (k : ℕ) × (l ≡ lackingLine n m k) × Lacked input n m k
   unfolding ascii
   is-lacking _ (desk.complete n c) e = let z : ⊥ = omega arith in absurd z
   is-lacking _ (desk.lacking n m k c) e = (n, m, k, refl, c)
   is-lacking _ (desk.nothing c) e = let z : ⊥ = omega arith in absurd z
-  is-lacking _ (desk.refused number line c) e = let z : ⊥ = omega arith in absurd z
+  is-lacking _ (desk.refused number line distance c) e = let z : ⊥ = omega arith in absurd z
 
   is-nothing : (l : List ℕ) → Says input l → letter l ≡ 110 → Unneeded input
   unfolding ascii
   is-nothing _ (desk.complete n c) e = let z : ⊥ = omega arith in absurd z
   is-nothing _ (desk.lacking n m k c) e = let z : ⊥ = omega arith in absurd z
   is-nothing _ (desk.nothing c) e = c
-  is-nothing _ (desk.refused number line c) e = let z : ⊥ = omega arith in absurd z
+  is-nothing _ (desk.refused number line distance c) e = let z : ⊥ = omega arith in absurd z
 
-  is-refused : (l : List ℕ) → Says input l → letter l ≡ 114 → (number : ℕ) × (line : ℕ) × (l ≡ refusedLine number line) × Refused input number line
+  is-refused : (l : List ℕ) → Says input l → letter l ≡ 114 → (number : ℕ) × (line : ℕ) × (distance : ℕ) × (l ≡ refusedLine number line distance) × Refused input number line distance
   unfolding ascii
   is-refused _ (desk.complete n c) e = let z : ⊥ = omega arith in absurd z
   is-refused _ (desk.lacking n m k c) e = let z : ⊥ = omega arith in absurd z
   is-refused _ (desk.nothing c) e = let z : ⊥ = omega arith in absurd z
-  is-refused _ (desk.refused number line c) e = (number, line, refl, c)
+  is-refused _ (desk.refused number line distance c) e = (number, line, distance, refl, c)
 
   -- ---- a line begins with its word exactly when it is so
 
@@ -477,12 +477,12 @@ module _ (input : List ℕ) where
         if = λ c. (drop 14 nothingLine, tell-nothing input c);
       }
 
-  refused : ExactlyWhen (Begins (ascii "refused") (answer input)) ((number : ℕ) × (line : ℕ) × Refused input number line)
+  refused : ExactlyWhen (Begins (ascii "refused") (answer input)) ((number : ℕ) × (line : ℕ) × (distance : ℕ) × Refused input number line distance)
   unfolding ascii
   refused =
       record {
-        only = λ b. let c = is-refused (answer input) (says input) (ap letter (b .1)) in (c .0, c .1, c .3);
-        if = λ c. (drop 7 (refusedLine (c .0) (c .1)), tell-refused input (c .0) (c .1) (c .2));
+        only = λ b. let c = is-refused (answer input) (says input) (ap letter (b .1)) in (c .0, c .1, c .2, c .4);
+        if = λ c. (drop 7 (refusedLine (c .0) (c .1) (c .2)), tell-refused input (c .0) (c .1) (c .2) (c .3));
       }
 
   -- ---- and has these figures exactly when it is so with these
@@ -511,15 +511,16 @@ module _ (input : List ℕ) where
   unfolding ascii
   nothing-line = record { only = λ e. is-nothing (answer input) (says input) (ap letter e); if = tell-nothing input }
 
-  refused-line : (number line : ℕ) → ExactlyWhen (answer input ≡ refusedLine number line) (Refused input number line)
+  refused-line : (number line distance : ℕ) → ExactlyWhen (answer input ≡ refusedLine number line distance) (Refused input number line distance)
   unfolding ascii
-  refused-line number line = record { only = only; if = tell-refused input number line }
+  refused-line number line distance = record { only = only; if = tell-refused input number line distance }
     where
-      only : answer input ≡ refusedLine number line → Refused input number line
+      only : answer input ≡ refusedLine number line distance → Refused input number line distance
       only e =
           let c = is-refused (answer input) (says input) (ap letter e) in
-          let same = one-refused (c .0) (c .1) number line (sym (c .2) ∙ e) in
-          subst (λ (x : ℕ). Refused input x line) (same .0) (subst (λ (x : ℕ). Refused input (c .0) x) (same .1) (c .3))
+          let same = one-refused (c .0) (c .1) (c .2) number line distance (sym (c .3) ∙ e) in
+          subst (λ (x : ℕ). Refused input x line distance) (same .0)
+          (subst (λ (x : ℕ). Refused input (c .0) x distance) (same .1) (subst (λ (x : ℕ). Refused input (c .0) (c .1) x) (same .2) (c .4)))
 
 pub desk-says : DeskSays
 desk-says =

@@ -1,9 +1,12 @@
 -- The desk's four lines: which verdict is told by which, and that a line has its figures from nowhere else.
 use mathlib.Core.Path.{_≡_, refl, sym, ap, ap₂, _∙_}
-use mathlib.Core.Bool.{false}
+use mathlib.Core.Bool.{Bool, true, false, cond}
 use mathlib.Core.List.{List, [], _∷_, _++_, append-assoc}
 use Prim.Native.Nat.{ℕ, _*_, _/_}
-use lib.ListN.{length, drop}
+use native.Mathlib.Omega.{arith}
+use borrow.Author.Tests.{eqb-true}
+use lib.Dec.{eqb}
+use lib.ListN.{length, drop, getD}
 use lib.Seq.{drop-append-seam}
 use Rattle.units.specs.declared.WideTick.{WideTick}
 use Rattle.answers.specs.declared.Verdict.the-variants as verdict
@@ -12,7 +15,7 @@ use Rattle.hex.specs.Ascii.{ascii}
 use Rattle.file.specs.Lines.{lineFeed}
 use Rattle.report.specs.Text.{decimalBy, decimal, shareText, verdictText, beginsWithDigit, readFrom}
 use Rattle.report.proofs.Figures.{figures}
-use Rattle.laws.specs.Desk.{completeLine, lackingLine, refusedLine}
+use Rattle.laws.specs.Desk.{completeLine, lackingLine, byDistance, refusedLine}
 
 -- ---- two numbers, each in front of some bytes that are no digits
 
@@ -75,16 +78,43 @@ lacking-text n m k p =
 
 -- ---- refused
 
-abbrev behindNumber : ℕ → List ℕ
-behindNumber line = 32 ∷ 108 ∷ 105 ∷ 110 ∷ 101 ∷ 32 ∷ (decimal line ++ (10 ∷ []))
+-- what stands behind a line is no digit, whether a distance is told or not
+abbrev behindLine : ℕ → List ℕ
+behindLine distance = byDistance distance ++ 10 ∷ []
 
-refused-is : (number line : ℕ) → refusedLine number line ≡ ascii "refused " ++ (decimal number ++ behindNumber line)
+no-digit : (distance : ℕ) → beginsWithDigit (behindLine distance) ≡ false
 unfolding ascii
-refused-is number line = simp append-assoc
+no-digit distance = go (eqb distance 0)
+  where
+    go : (t : Bool) → beginsWithDigit (cond t [] (ascii " by " ++ decimal distance) ++ 10 ∷ []) ≡ false
+    go true = refl
+    go false = refl
 
-pub one-refused : (number line number₁ line₁ : ℕ) → refusedLine number line ≡ refusedLine number₁ line₁ → (number ≡ number₁) × (line ≡ line₁)
+one-distance : (m n : ℕ) → behindLine m ≡ behindLine n → m ≡ n
 unfolding ascii
-one-refused number line number₁ line₁ e =
-    let x = same-number number number₁ (behindNumber line) (behindNumber line₁) refl refl (ap (drop 8) (sym (refused-is number line) ∙ e ∙ refused-is number₁ line₁)) in
-    let y = same-number line line₁ (10 ∷ []) (10 ∷ []) refl refl (ap (drop 6) (x .1)) in
-    (x .0, y .0)
+one-distance m n = go (eqb m 0) refl (eqb n 0) refl
+  where
+    go : (s : Bool) → eqb m 0 ≡ s → (t : Bool) → eqb n 0 ≡ t →
+        cond s [] (ascii " by " ++ decimal m) ++ 10 ∷ [] ≡ cond t [] (ascii " by " ++ decimal n) ++ 10 ∷ [] → m ≡ n
+    go true p true q e = eqb-true m 0 p ∙ sym (eqb-true n 0 q)
+    go true p false q e = let z : _≡_ {A = ℕ} 10 32 = ap (λ (l : List ℕ). getD l 0 0) e in let w : ⊥ = omega arith in absurd w
+    go false p true q e = let z : _≡_ {A = ℕ} 32 10 = ap (λ (l : List ℕ). getD l 0 0) e in let w : ⊥ = omega arith in absurd w
+    go false p false q e = same-number m n (10 ∷ []) (10 ∷ []) refl refl (ap (drop 4) e) .0
+
+abbrev behindNumber : ℕ → ℕ → List ℕ
+behindNumber line distance = 32 ∷ 108 ∷ 105 ∷ 110 ∷ 101 ∷ 32 ∷ (decimal line ++ behindLine distance)
+
+refused-is : (number line distance : ℕ) → refusedLine number line distance ≡ ascii "refused " ++ (decimal number ++ behindNumber line distance)
+unfolding ascii
+refused-is number line distance = simp append-assoc
+
+pub one-refused : (number line distance number₁ line₁ distance₁ : ℕ) → refusedLine number line distance ≡ refusedLine number₁ line₁ distance₁ →
+    (number ≡ number₁) × (line ≡ line₁) × (distance ≡ distance₁)
+unfolding ascii
+one-refused number line distance number₁ line₁ distance₁ e =
+    let x =
+    same-number number number₁ (behindNumber line distance) (behindNumber line₁ distance₁) refl refl
+    (ap (drop 8) (sym (refused-is number line distance) ∙ e ∙ refused-is number₁ line₁ distance₁))
+    in
+    let y = same-number line line₁ (behindLine distance) (behindLine distance₁) (no-digit distance) (no-digit distance₁) (ap (drop 6) (x .1)) in
+    (x .0, y .0, one-distance distance distance₁ (y .1))

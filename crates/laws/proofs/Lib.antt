@@ -15,6 +15,7 @@ pub mod DeskLines
 pub mod Desk
 pub mod Rows
 pub mod Changing
+pub mod Distances
 pub mod Reach
 pub mod NoRow
 pub mod SLines
@@ -29,5 +30,6 @@ pub mod Unique
 pub mod Answering
 pub mod Demand1
 pub mod Stamps
+pub mod Distance
 pub mod Update
 pub mod OldAnswers

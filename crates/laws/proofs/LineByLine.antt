@@ -1,5 +1,5 @@
 -- The reader and the rows go the same way, line by line: a line is taken exactly where no row holds, and refused with the first row that does.
-use mathlib.Core.Path.{_≡_, refl, sym, ap, subst, _∙_}
+use mathlib.Core.Path.{_≡_, refl, sym, ap, subst, subst⁻¹, _∙_}
 use mathlib.Core.Bool.{Bool, true, false, cond, not, _&&_, true≢false}
 use mathlib.Core.List.{List, [], _∷_, map}
 use Prim.Native.Nat.{ℕ, _+_, _-_}
@@ -15,10 +15,10 @@ use Rattle.window.specs.Limits.{headHeld}
 use Rattle.agreement.specs.declared.refusal.Refusal.{Refusal}
 use Rattle.agreement.specs.declared.refusal.Refusal.the-variants.{OverLimit, BadLine, BadOrder}
 use Rattle.agreement.specs.Agreement.{agrees}
-use Rattle.agreement.specs.Numbers.{refusalNumber}
+use Rattle.agreement.specs.Numbers.{refusalNumber, refusalDistance}
 use Rattle.keeping.specs.declared.Outcome.{Outcome}
 use Rattle.keeping.specs.declared.Outcome.the-variants as outcome
-use Rattle.keeping.specs.Keeping.{outcomeNumber, changedBy, wordsBy}
+use Rattle.keeping.specs.Keeping.{outcomeNumber, outcomeDistance, changedBy, wordsBy}
 use Rattle.timeline.specs.Opening.{freshRecord, zeroRecord, openOutcome}
 use Rattle.timeline.proofs.Kept.{open-agrees}
 use Rattle.frames.specs.declared.Frame.{Frame}
@@ -33,10 +33,11 @@ use Rattle.file.specs.Judging.{File, headIn, refused, taken, laterStanding, tak
 use Rattle.file.specs.Sound.{Narrow}
 use Rattle.file.proofs.Places.{narrow}
 use Rattle.laws.specs.Calls.{State, after, opening}
-use Rattle.laws.specs.Refusals.{lowest, overLimit}
-use Rattle.laws.specs.Lines.{startOf, openingTick, negative, callOf, Place, atFirst, afterHead, afterS, afterNegative, afterEnd, Sofar, appendedRows, timelineFor, lineRows, taking, Result, accepted, refusedAt, unlessRefused, judged, beginning}
+use Rattle.laws.specs.Refusals.{lowest, isApart, overLimit}
+use Rattle.laws.specs.Lines.{startOf, openingTick, negative, callOf, Place, atFirst, afterHead, afterS, afterNegative, afterEnd, mayStand, Sofar, appendedRows, timelineFor, lineRows, lineDistance, taking, Result, accepted, refusedAt, unlessRefused, judged, beginning}
 use Rattle.laws.proofs.Rows.{told, none as none-there}
 use Rattle.laws.proofs.Changing as changing
+use Rattle.laws.proofs.Distances.{Told, open-told}
 use Rattle.laws.proofs.NoRow.{none-holds, refused-number}
 use Rattle.laws.proofs.SLines.{later-stands, first-is, first-stands, Taken, on, off, s-taken}
 
@@ -65,7 +66,8 @@ pub data At (came : List ℕ) : Sofar → ℕ → Type 0 where
 -- what a line comes to in both
 data Step (came : List ℕ) (x : Sofar) (n : ℕ) (f : Frame) (z : File) : Type 0 where
   goes : lowest (lineRows came x f) ≡ 0 → z ≡ held came (taking came x f) (n + 1) → At came (taking came x f) (n + 1) → Step came x n f z
-  stops : (why : Refusal) → z .reading .stage ≡ Refused why → z .reading .lines ≡ n → lowest (lineRows came x f) ≡ refusalNumber why → Step came x n f z
+  stops : (why : Refusal) → z .reading .stage ≡ Refused why → z .reading .lines ≡ n → lowest (lineRows came x f) ≡ refusalNumber why →
+      refusalDistance why ≡ lineDistance came x f (refusalNumber why) → ltb 0 (refusalDistance why) ≡ isApart (refusalNumber why) → Step came x n f z
 
 -- ---- the head
 
@@ -98,7 +100,7 @@ module _ (came : List ℕ) (x : HeadLine) where
           (taken Headed (record { stage = Nothing; lines = 0; rec = zeroRecord }) (freshRecord h (record { 0 = 0 })) came)
           (refused OverLimit (record { stage = Nothing; lines = 0; rec = zeroRecord }) came))
       go true e = goes (head-number came h true e) refl (headed h (record { rec = zeroRecord; words = came }) e)
-      go false e = stops OverLimit refl refl (head-number came h false e)
+      go false e = stops OverLimit refl refl (head-number came h false e) refl refl
 
 -- ---- an S line
 
@@ -124,7 +126,7 @@ module _ (came : List ℕ) (x : Sofar) (k : ℕ) (s : SFields) (z : File) (e : x
           At came (record { place = cond b afterNegative afterS; head = x .head; count = x .count + 1; timeline = y }) (k + 1 + 1)
       place b y a l =
           subst (λ (m : ℕ). At came (record { place = cond b afterNegative afterS; head = x .head; count = m + 1; timeline = y }) (k + 1 + 1)) (sym e) (at b y a l)
-  s-step (off why stage lines number) = stops why stage lines (rows ∙ number)
+  s-step (off why stage lines number t) = stops why stage lines (rows ∙ number) (t .distance) (t .some)
 
 -- an opening that is accepted
 module _ (came : List ℕ) (h : Head) (s : SFields) (e : openOutcome h (openingTick s) ≡ outcome.Accepted) where
@@ -181,7 +183,11 @@ module _ (came : List ℕ) (h : Head) (y : State) (s : SFields) (narrowed : Narr
     where
       go : (o : Outcome) → openOutcome h (openingTick s) ≡ o → Step came early 1 (S s) (openedBy o unopened came s)
       go outcome.Accepted e = opened-s e
-      go (outcome.Refused why) e = stops why refl refl (over-row why e)
+      go (outcome.Refused why) e =
+          let next = timelineFor came early s .rec .next .0 in
+          let start = startOf next s in
+          let t = subst (λ o. Told o (start - next) (next - start)) e (open-told (start - next) (next - start) h (openingTick s)) in
+          stops why refl refl (over-row why e) (t .distance) (t .some)
 
 -- a later S is appended to the timeline as it is
 module _ (came : List ℕ) (h : Head) (k : ℕ) (y : State) (s : SFields) where
@@ -233,7 +239,7 @@ module _ (came : List ℕ) (h : Head) (k : ℕ) (y : State) (m : ℕ) (p : Place
           (cond b (taken Ended (record { stage = st; lines = k + 1 + 1; rec = y .rec }) (y .rec) (y .words))
           (refused BadOrder (record { stage = st; lines = k + 1 + 1; rec = y .rec }) (y .words)))
       go true e = goes e refl (ended h (k + 1) y (k + 1 + 1 + 1))
-      go false e = stops BadOrder refl refl e
+      go false e = stops BadOrder refl refl e refl refl
 
 -- ---- every line
 
@@ -243,30 +249,30 @@ onward came x n f = onFrame (held came x n .reading .stage) (held came x n .read
 step : (came : List ℕ) (x : Sofar) (n : ℕ) → At came x n → (f : Frame) → Narrow f → Step came x n f (onward came x n f)
 unfolding onNothing onHeaded onOpen onFilled
 step came x n none (HeadFrame f) w = head-step came f
-step came x n none (S s) w = stops BadOrder refl refl refl
-step came x n none (End m) w = stops BadOrder refl refl refl
-step came x n none (Clock c) w = stops BadLine refl refl refl
-step came x n none Bad w = stops BadLine refl refl refl
-step came x n (headed h y e) (HeadFrame g) w = stops BadOrder refl refl refl
+step came x n none (S s) w = stops BadOrder refl refl refl refl refl
+step came x n none (End m) w = stops BadOrder refl refl refl refl refl
+step came x n none (Clock c) w = stops BadLine refl refl refl refl refl
+step came x n none Bad w = stops BadLine refl refl refl refl refl
+step came x n (headed h y e) (HeadFrame g) w = stops BadOrder refl refl refl refl refl
 step came x n (headed h y e) (S s) w = headed-s came h y s w
-step came x n (headed h y e) (End m) w = stops BadOrder refl refl refl
-step came x n (headed h y e) (Clock c) w = stops BadLine refl refl refl
-step came x n (headed h y e) Bad w = stops BadLine refl refl refl
-step came x n (running h k y a l) (HeadFrame g) w = stops BadOrder refl refl refl
+step came x n (headed h y e) (End m) w = stops BadOrder refl refl refl refl refl
+step came x n (headed h y e) (Clock c) w = stops BadLine refl refl refl refl refl
+step came x n (headed h y e) Bad w = stops BadLine refl refl refl refl refl
+step came x n (running h k y a l) (HeadFrame g) w = stops BadOrder refl refl refl refl refl
 step came x n (running h k y a l) (S s) w = running-s came h k y s a l w
 step came x n (running h k y a l) (End m) w = end-step came h k y m afterS Open refl
-step came x n (running h k y a l) (Clock c) w = stops BadLine refl refl refl
-step came x n (running h k y a l) Bad w = stops BadLine refl refl refl
-step came x n (filled h k y a l) (HeadFrame g) w = stops BadOrder refl refl refl
-step came x n (filled h k y a l) (S s) w = stops BadOrder refl refl refl
+step came x n (running h k y a l) (Clock c) w = stops BadLine refl refl refl refl refl
+step came x n (running h k y a l) Bad w = stops BadLine refl refl refl refl refl
+step came x n (filled h k y a l) (HeadFrame g) w = stops BadOrder refl refl refl refl refl
+step came x n (filled h k y a l) (S s) w = stops BadOrder refl refl refl refl refl
 step came x n (filled h k y a l) (End m) w = end-step came h k y m afterNegative Filled refl
-step came x n (filled h k y a l) (Clock c) w = stops BadLine refl refl refl
-step came x n (filled h k y a l) Bad w = stops BadLine refl refl refl
-step came x n (ended h k y i) (HeadFrame g) w = stops BadLine refl refl refl
-step came x n (ended h k y i) (S s) w = stops BadLine refl refl refl
-step came x n (ended h k y i) (End m) w = stops BadLine refl refl refl
-step came x n (ended h k y i) (Clock c) w = stops BadLine refl refl refl
-step came x n (ended h k y i) Bad w = stops BadLine refl refl refl
+step came x n (filled h k y a l) (Clock c) w = stops BadLine refl refl refl refl refl
+step came x n (filled h k y a l) Bad w = stops BadLine refl refl refl refl refl
+step came x n (ended h k y i) (HeadFrame g) w = stops BadLine refl refl refl refl refl
+step came x n (ended h k y i) (S s) w = stops BadLine refl refl refl refl refl
+step came x n (ended h k y i) (End m) w = stops BadLine refl refl refl refl refl
+step came x n (ended h k y i) (Clock c) w = stops BadLine refl refl refl refl refl
+step came x n (ended h k y i) Bad w = stops BadLine refl refl refl refl refl
 
 -- ---- the whole file
 
@@ -276,6 +282,7 @@ readResult came z rest =
     let o = stopOutcome (z .reading .stage) (length rest) in
     record {
       number = outcomeNumber o;
+      distance = outcomeDistance o;
       line = answeredBy o (z .reading) .line;
       rec = answeredBy o (z .reading) .rec;
       words = wordsBy o (z .words) (zeroed came);
@@ -283,19 +290,20 @@ readResult came z rest =
 
 -- a file that is refused stays so
 refused-stays : (came : List ℕ) (z : File) (why : Refusal) (n : ℕ) (ls : List (List ℕ)) (rest : List ℕ) →
-    z .reading .stage ≡ Refused why → z .reading .lines ≡ n → readResult came (takeLines z ls) rest ≡ refusedAt came (n + 1) (refusalNumber why)
+    z .reading .stage ≡ Refused why → z .reading .lines ≡ n → readResult came (takeLines z ls) rest ≡ refusedAt came (n + 1) (refusalNumber why) (refusalDistance why)
 unfolding takeLines takeLine wordsBy
 refused-stays came z why n [] rest e l =
     ap
     (λ t. let o = stopOutcome t (length rest) in
     record {
       number = outcomeNumber o;
+      distance = outcomeDistance o;
       line = answeredBy o (z .reading) .line;
       rec = answeredBy o (z .reading) .rec;
       words = wordsBy o (z .words) (zeroed came);
     })
     e ∙
-    ap (λ (m : ℕ). refusedAt came (m + 1) (refusalNumber why)) l
+    ap (λ (m : ℕ). refusedAt came (m + 1) (refusalNumber why) (refusalDistance why)) l
 refused-stays came z why n (x ∷ ls) rest e l =
     ap (λ t. readResult came (takeLines (onFrame t (z .reading) (z .words) (frameOf x)) ls) rest) e ∙ refused-stays came z why n ls rest e l
 
@@ -312,14 +320,20 @@ stopped came x n (ended h k y i) rest =
     result o =
         record {
           number = outcomeNumber o;
+          distance = outcomeDistance o;
           line = answeredBy o (record { stage = Ended; lines = i; rec = y .rec }) .line;
           rec = answeredBy o (record { stage = Ended; lines = i; rec = y .rec }) .rec;
           words = wordsBy o (y .words) (zeroed came);
         }
 
-    by : (c : Bool) → result (cond (not c) outcome.Accepted (outcome.Refused BadLine)) ≡ unlessRefused came (i + 1) (cond c 16 0) (accepted y)
+    by : (c : Bool) → result (cond (not c) outcome.Accepted (outcome.Refused BadLine)) ≡ unlessRefused came (i + 1) (cond c 16 0) 0 (accepted y)
     by true = refl
     by false = refl
+
+-- what comes of one line, by its number
+abbrev lineBy : List ℕ → List (List ℕ) → List ℕ → Sofar → ℕ → Frame → ℕ → Result
+lineBy came ls rest x n f number =
+    unlessRefused came (n + 1) number (lineDistance came x f number) (judged came (taking came x f) (n + 1 + 1) (map frameOf ls) rest)
 
 pub same-way : (came : List ℕ) (ls : List (List ℕ)) (rest : List ℕ) (x : Sofar) (n : ℕ) → At came x n →
     readResult came (takeLines (held came x n) ls) rest ≡ judged came x (n + 1) (map frameOf ls) rest
@@ -331,16 +345,45 @@ same-way came (l ∷ ls) rest x n a =
     go : (z : File) → Step came x n (frameOf l) z →
         (At came (taking came x (frameOf l)) (n + 1) →
         readResult came (takeLines (held came (taking came x (frameOf l)) (n + 1)) ls) rest ≡ judged came (taking came x (frameOf l)) (n + 1 + 1) (map frameOf ls) rest) →
-        readResult came (takeLines z ls) rest ≡
-        unlessRefused came (n + 1) (lowest (lineRows came x (frameOf l))) (judged came (taking came x (frameOf l)) (n + 1 + 1) (map frameOf ls) rest)
+        readResult came (takeLines z ls) rest ≡ lineBy came ls rest x n (frameOf l) (lowest (lineRows came x (frameOf l)))
     go z (goes e is at) more =
         ap (λ y. readResult came (takeLines y ls) rest) is ∙
         more at ∙
-        sym (ap (λ (m : ℕ). unlessRefused came (n + 1) m (judged came (taking came x (frameOf l)) (n + 1 + 1) (map frameOf ls) rest)) e)
-    go z (stops why stage lines number) more =
+        sym (ap (lineBy came ls rest x n (frameOf l)) e)
+    go z (stops why stage lines number distance some) more =
         refused-stays came z why n ls rest stage lines ∙
-        ap (refusedAt came (n + 1)) (sym number) ∙
+        ap (refusedAt came (n + 1) (refusalNumber why)) distance ∙
         sym
         (ap
-        (λ b. cond b (judged came (taking came x (frameOf l)) (n + 1 + 1) (map frameOf ls) rest) (refusedAt came (n + 1) (lowest (lineRows came x (frameOf l)))))
-        (refused-number why (lowest (lineRows came x (frameOf l))) number))
+        (λ b. cond b (judged came (taking came x (frameOf l)) (n + 1 + 1) (map frameOf ls) rest) (refusedAt came (n + 1) (refusalNumber why) (lineDistance came x (frameOf l) (refusalNumber why))))
+        (refused-number why (refusalNumber why) refl)) ∙
+        sym (ap (lineBy came ls rest x n (frameOf l)) number)
+
+-- ---- a distance comes with 4 and 5, and with no other number
+
+abbrev pub Sure : Result → Type 0
+Sure r = ltb 0 (r .distance) ≡ isApart (r .number)
+
+pub all-sure : (came : List ℕ) (ls : List (List ℕ)) (rest : List ℕ) (x : Sofar) (n : ℕ) → At came x n → Sure (judged came x (n + 1) (map frameOf ls) rest)
+unfolding judged
+all-sure came [] rest x n a = by (ltb 0 (length (mayStand (x .place)))) (ltb 0 (length rest))
+  where
+    by : (b c : Bool) → Sure (unlessRefused came (n + 1) (lowest ((b, 16) ∷ (c, 16) ∷ [])) 0 (accepted (x .timeline)))
+    by true c = refl
+    by false true = refl
+    by false false = refl
+all-sure came (l ∷ ls) rest x n a =
+    go (onward came x n (frameOf l)) (step came x n a (frameOf l) (narrow l (frameOf l) refl)) (all-sure came ls rest (taking came x (frameOf l)) (n + 1))
+  where
+    go : (z : File) → Step came x n (frameOf l) z → (At came (taking came x (frameOf l)) (n + 1) → Sure (judged came (taking came x (frameOf l)) (n + 1 + 1) (map frameOf ls) rest)) →
+        Sure (lineBy came ls rest x n (frameOf l) (lowest (lineRows came x (frameOf l))))
+    go z (goes e is at) more = subst⁻¹ (λ (m : ℕ). Sure (lineBy came ls rest x n (frameOf l) m)) e (more at)
+    go z (stops why stage lines number distance some) more =
+        subst⁻¹ (λ (m : ℕ). Sure (lineBy came ls rest x n (frameOf l) m)) number
+        (subst⁻¹
+        (λ b.
+        Sure
+        (cond b (judged came (taking came x (frameOf l)) (n + 1 + 1) (map frameOf ls) rest)
+        (refusedAt came (n + 1) (refusalNumber why) (lineDistance came x (frameOf l) (refusalNumber why)))))
+        (refused-number why (refusalNumber why) refl)
+        (ap (ltb 0) (sym distance) ∙ some))

@@ -48,8 +48,8 @@ some-number : (why : Refusal) → eqb (refusalNumber why) 0 ≡ false
 some-number OverLimit = refl
 some-number Disagreement = refl
 some-number NothingGiven = refl
-some-number Gap = refl
-some-number Overlap = refl
+some-number (Gap d) = refl
+some-number (Overlap d) = refl
 some-number TickLimit = refl
 some-number CountLimit = refl
 some-number PastEnd = refl

@@ -2,7 +2,7 @@
 use mathlib.Core.Path.{_≡_, refl, sym, ap, ap₂, _∙_}
 use mathlib.Core.Bool.{Bool, true, false, cond, not, _||_}
 use mathlib.Core.List.{List, [], _∷_}
-use Prim.Native.Nat.{ℕ, zero, suc, _+_, _*_, _^_, _≤_, _<_}
+use Prim.Native.Nat.{ℕ, zero, suc, _+_, _-_, _*_, _^_, _≤_, _<_}
 use native.Mathlib.Nat.{le-refl}
 use native.Mathlib.Omega.{arith}
 use borrow.Author.Tests.{leb-false, lt-ltb, le-ltb, eq-eqb, ne-eqb, eqb-false}
@@ -73,8 +73,8 @@ by-tests : (z k f : Bool) (st : Standing) (o : Outcome) (after before past : Boo
     outcomeNumber (cond z (Refused refusal.NothingGiven) (unjoined st else cond (not k) (cond f o (Refused refusal.PastEnd)) (Refused refusal.NoEndToReach))) ≡
     lowest ((z, 3) ∷ (after, 4) ∷ (before, 5) ∷ (k, 18) ∷ (past, 8) ∷ rows)
 by-tests true k f st o after before past rows a b p q = refl
-by-tests false k f Gap o after before past rows a b p q = ap (λ t. lowest ((t, 4) ∷ (before, 5) ∷ (k, 18) ∷ (past, 8) ∷ rows)) a
-by-tests false k f Overlap o after before past rows a b p q = ap₂ (λ t u. lowest ((t, 4) ∷ (u, 5) ∷ (k, 18) ∷ (past, 8) ∷ rows)) a b
+by-tests false k f (Gap d) o after before past rows a b p q = ap (λ t. lowest ((t, 4) ∷ (before, 5) ∷ (k, 18) ∷ (past, 8) ∷ rows)) a
+by-tests false k f (Overlap d) o after before past rows a b p q = ap₂ (λ t u. lowest ((t, 4) ∷ (u, 5) ∷ (k, 18) ∷ (past, 8) ∷ rows)) a b
 by-tests false true f Joins o after before past rows a b p q = ap₂ (λ t u. lowest ((t, 4) ∷ (u, 5) ∷ (true, 18) ∷ (past, 8) ∷ rows)) a b
 by-tests false false false Joins o after before past rows a b p q =
     ap (λ t. lowest ((t, 8) ∷ rows)) (sym (p refl refl)) ∙ ap₂ (λ t u. lowest ((t, 4) ∷ (u, 5) ∷ (past, 8) ∷ rows)) a b
@@ -126,7 +126,7 @@ module _ (x : State) (start : WideTick) (d : ℕ) (agreed : agrees (x .rec) (x .
           let next = x .rec .next .0 in
           let self : WideTick = record { 0 = next } in
           let none : eqb counted 0 ≡ false = ne-eqb counted 0 (λ e. let w : ⊥ = omega (arith, count-is .some) in w) in
-          let joined : tickStanding self (x .rec .next) ≡ Joins = ap (λ b. standingBy b (ltb next next)) (eq-eqb next next refl) in
+          let joined : tickStanding self (x .rec .next) ≡ Joins = ap (λ b. standingBy b (ltb next next) (next - next) (next - next)) (eq-eqb next next refl) in
           let still : ltb next next ≡ false = le-ltb next next (le-refl next) in
           ap outcomeNumber
           (sym
@@ -144,7 +144,7 @@ module _ (x : State) (start : WideTick) (d : ℕ) (agreed : agrees (x .rec) (x .
       by-tests (eqb d 0) (eqb (x .rec .head .duration .0) 0) (beforeEnd (x .rec .head) next) (tickStanding start (x .rec .next))
       (fitOutcome (x .rec) (x .words) d counted) (ltb next (start .0)) (ltb (start .0) next) (startsPast (x .rec) d counted)
       ((six, 6) ∷ (seven, 7) ∷ (nine, 9) ∷ [])
-      (gap-is (eqb (start .0) next) (ltb next (start .0)) ∙ after (start .0) next)
-      (overlap-is (eqb (start .0) next) (ltb next (start .0)) ∙ before (start .0) next)
+      (gap-is _ _ (eqb (start .0) next) (ltb next (start .0)) ∙ after (start .0) next)
+      (overlap-is _ _ (eqb (start .0) next) (ltb next (start .0)) ∙ before (start .0) next)
       rows-past
       rows-fit

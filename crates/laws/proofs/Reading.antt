@@ -3,12 +3,13 @@
 use mathlib.Core.Path.{_≡_, refl, sym, ap, ap₂, subst, subst⁻¹, _∙_}
 use mathlib.Core.List.{List, [], _∷_, _++_, map}
 use Prim.Native.Nat.{ℕ, max}
+use lib.Dec.{ltb}
 use lib.ListN.{length}
 use Rattle.window.specs.declared.Head.{Head}
 use Rattle.agreement.specs.declared.Record.{Record}
 use Rattle.keeping.specs.declared.Outcome.{Outcome}
 use Rattle.keeping.specs.declared.Outcome.the-variants.{Accepted, Refused}
-use Rattle.keeping.specs.Keeping.{outcomeNumber}
+use Rattle.keeping.specs.Keeping.{outcomeNumber, outcomeDistance}
 use Rattle.timeline.specs.Opening.{openOutcome}
 use Rattle.frames.specs.declared.Frame.{Frame}
 use Rattle.frames.specs.declared.Frame.the-variants.{S, End}
@@ -27,12 +28,13 @@ use Rattle.writing.specs.Writing.{bytesOf}
 use Rattle.writing.proofs.Back.{rest-of-frames}
 use Rattle.laws.specs.Calls.{Call, Plain, State, after, afterCalls, allAccepted, clockOf, greatest}
 use Rattle.laws.specs.History.{Holds}
+use Rattle.laws.specs.Refusals.{isApart}
 use Rattle.laws.specs.Lines.{openingTick, Result, accepted, judged, beginning, judgedFile}
 use Rattle.laws.specs.Reading.{fileFrames, StandFor, openingOf, ReadsAs, IsFile, ReadingRight}
 use Rattle.laws.proofs.Histories.{demand-3}
 use Rattle.laws.proofs.Rows.{told}
 use Rattle.laws.proofs.NoRow.{number-accepted}
-use Rattle.laws.proofs.LineByLine.{readResult, none, same-way}
+use Rattle.laws.proofs.LineByLine.{readResult, none, same-way, all-sure}
 use Rattle.laws.proofs.Bytes.{frames-again, AllFrames, AllNarrow, all-narrow, bytes-again}
 use Rattle.laws.proofs.WholeFile.{Whole, whole-only, whole-if}
 
@@ -51,6 +53,14 @@ module _ (bytes came : List ℕ) where
   number-is : outcomeNumber (readAnswer bytes came .outcome) ≡ judgedFile bytes came .number
   unfolding readAnswer readOutcome
   number-is = ap outcomeNumber (outcome-is (readOutcome bytes came) (readLines bytes came .reading)) ∙ ap (λ (r : Result). r .number) result-is
+
+  distance-is : outcomeDistance (readAnswer bytes came .outcome) ≡ judgedFile bytes came .distance
+  unfolding readAnswer readOutcome
+  distance-is = ap outcomeDistance (outcome-is (readOutcome bytes came) (readLines bytes came .reading)) ∙ ap (λ (r : Result). r .distance) result-is
+
+  -- a distance comes with 4 and 5, and with no other number
+  pub distance-sure : ltb 0 (outcomeDistance (readAnswer bytes came .outcome)) ≡ isApart (outcomeNumber (readAnswer bytes came .outcome))
+  distance-sure = ap (ltb 0) distance-is ∙ all-sure came (linesOf bytes) (restOf bytes) (beginning came) 0 none ∙ ap isApart (sym number-is)
 
   line-is : readAnswer bytes came .line ≡ judgedFile bytes came .line
   unfolding readAnswer readOutcome
@@ -168,6 +178,7 @@ reading-right =
       holds = file-holds;
       number = number-is;
       line = line-is;
+      distance = distance-is;
       rec = record-is;
       words = words-are;
       never-two = never-disagrees;

@@ -14,6 +14,7 @@ use Rattle.units.specs.declared.Stamp.{Stamp}
 use Rattle.units.specs.declared.full.Full.{Full}
 use Rattle.units.specs.declared.full.Full.the-variants as named
 use Rattle.units.specs.Full.{fullTick}
+use Rattle.units.specs.Standing.{tickStanding, stampStanding}
 use Rattle.units.specs.Limits.{largestMillis}
 use Rattle.window.specs.declared.Head.{Head}
 use Rattle.window.specs.declared.Reference.{Reference}
@@ -23,7 +24,9 @@ use Rattle.agreement.specs.declared.Record.{Record}
 use Rattle.agreement.specs.declared.refusal.Refusal.the-variants as refusal
 use Rattle.agreement.specs.Agreement.{kept, agrees}
 use Rattle.agreement.proofs.Agreeing.{agreeing}
+use Rattle.keeping.specs.declared.Outcome.{Outcome}
 use Rattle.keeping.specs.declared.Outcome.the-variants.{Refused}
+use Rattle.keeping.specs.Keeping.{outcomeNumber, outcomeDistance, changedBy}
 use Rattle.answers.specs.declared.Verdict.{Verdict}
 use Rattle.answers.specs.declared.Verdict.the-variants as verdict
 use Rattle.answers.specs.Counts.{neededCount, coveredCount, lowestLacking}
@@ -46,9 +49,18 @@ use Rattle.lookups.specs.Spans.{touches, beforeFirst, uptoLast, touchedWords, t
 use Rattle.lookups.specs.Numbers.{availabilityNumber, availableNumber, touchingNumber, fullTickNumber}
 use Rattle.writing.specs.declared.WriteAnswer.the-variants as written
 use Rattle.writing.specs.Writing.{fileFor, writeAnswer, writeNumber}
-use Rattle.laws.specs.Refusals.{lowest, some, notKept, Refusals, verdictRows, wholeRows, availabilityRows, availableRows, touchingRows, writeRows, fullTickRows, edgeRows}
-use Rattle.laws.proofs.Rows.{over, under, none}
+use Rattle.laws.specs.Refusals.{lowest, distanceWith, some, notKept, Refusals, verdictRows, wholeRows, availabilityRows, availableRows, touchingRows, writeRows, fullTickRows, edgeRows}
+use Rattle.laws.proofs.Rows.{over, under, none, told}
+use Rattle.laws.proofs.Distances.{Told, tick-far, stamp-far, append-told}
 use Rattle.laws.proofs.Changing.{opening, trim, append, append-stamp}
+
+-- ---- the distance
+
+-- the outcome beside a record tells what the outcome tells
+beside : (o : Outcome) (new old : Record) (a b : ℕ) → Told o a b →
+    outcomeDistance (changedBy o new old .outcome) ≡ distanceWith (outcomeNumber (changedBy o new old .outcome)) a b
+beside o new old a b t =
+    ap outcomeDistance (told o new old) ∙ t .distance ∙ ap (λ x. distanceWith (outcomeNumber x) a b) (sym (told o new old))
 
 -- ---- the calls that look
 
@@ -226,6 +238,10 @@ refusals =
       opening = opening;
       append = λ rec ws start d n narrow. append rec ws d n narrow start;
       append-stamp = λ rec ws stamp d n narrow. append-stamp rec ws d n narrow stamp;
+      append-distance = λ rec ws start d n.
+          beside _ _ _ _ _ (append-told _ _ rec ws (tickStanding start (rec .next)) d n (tick-far start (rec .next)));
+      stamp-distance = λ rec ws stamp d n small.
+          beside _ _ _ _ _ (append-told _ _ rec ws (stampStanding stamp (rec .next)) d n (stamp-far stamp (rec .next) small));
       trim = trim;
       verdict = verdict-at;
       verdict-whole = verdict-whole;

@@ -2,7 +2,7 @@
 use mathlib.Core.Path.{_≡_, refl, sym, ap, ap₂, subst, _∙_}
 use mathlib.Core.Bool.{Bool, true, false, cond}
 use mathlib.Core.List.{List}
-use Prim.Native.Nat.{ℕ, _+_, _≤_}
+use Prim.Native.Nat.{ℕ, _+_, _-_, _≤_}
 use native.Mathlib.Omega.{arith}
 use borrow.Author.Tests.{leb-true, leb-false, lt-ltb, le-ltb, eq-eqb, eqb-false}
 use lib.Dec.{eqb, ltb}
@@ -36,6 +36,7 @@ use Rattle.laws.specs.Refusals.{lowest, appendRows}
 use Rattle.laws.specs.Lines.{startOf, openingTick, negative, countOf, callOf, reachRows, appendedRows}
 use Rattle.laws.proofs.Rows.{told}
 use Rattle.laws.proofs.Changing.{append}
+use Rattle.laws.proofs.Distances.{Told, tick-far, append-told, reach-told}
 use Rattle.laws.proofs.Reach.{reach-number}
 use Rattle.laws.proofs.NoRow.{Reaches, reach-only}
 
@@ -46,7 +47,7 @@ pub later-stands : (s : SFields) (next : Tick) → laterStanding (s .t) next ≡
 later-stands s next = go (eqb (s .t .0) allOnes)
   where
     go : (b : Bool) → cond b Joins (tickStanding (s .t) next) ≡ tickStanding (record { 0 = cond b (next .0) (s .t .0) }) next
-    go true = sym (ap (λ b. standingBy b (ltb (next .0) (next .0))) (eq-eqb (next .0) (next .0) refl))
+    go true = sym (ap (λ b. standingBy b (ltb (next .0) (next .0)) (next .0 - next .0) (next .0 - next .0)) (eq-eqb (next .0) (next .0) refl))
     go false = refl
 
 pub first-is : (s : SFields) → tickOf (firstTick (s .t)) ≡ openingTick s
@@ -61,7 +62,7 @@ pub first-stands : (s : SFields) → Joins ≡ tickStanding (record { 0 = startO
 first-stands s = go (eqb (s .t .0) allOnes)
   where
     same : (n : ℕ) → Joins ≡ tickStanding (record { 0 = n }) (record { 0 = n })
-    same n = sym (ap (λ b. standingBy b (ltb n n)) (eq-eqb n n refl))
+    same n = sym (ap (λ b. standingBy b (ltb n n) (n - n) (n - n)) (eq-eqb n n refl))
 
     go : (b : Bool) → Joins ≡ tickStanding (record { 0 = cond b (cond b 0 (s .t .0)) (s .t .0) }) (record { 0 = cond b 0 (s .t .0) })
     go true = same 0
@@ -74,7 +75,8 @@ pub data Taken (x : State) (s : SFields) (n : ℕ) (z : File) : Type 0 where
   on : lowest (appendedRows x s) ≡ 0 →
       z ≡ record { reading = record { stage = cond (negative s) Filled Open; lines = n + 1; rec = after x (callOf x s) .rec }; words = after x (callOf x s) .words } →
       agrees (after x (callOf x s) .rec) (after x (callOf x s) .words) ≡ true → length (after x (callOf x s) .words) ≡ length (x .words) → Taken x s n z
-  off : (why : Refusal) → z .reading .stage ≡ Refused why → z .reading .lines ≡ n → lowest (appendedRows x s) ≡ refusalNumber why → Taken x s n z
+  off : (why : Refusal) → z .reading .stage ≡ Refused why → z .reading .lines ≡ n → lowest (appendedRows x s) ≡ refusalNumber why →
+      Told (outcome.Refused why) (startOf (x .rec .next .0) s - x .rec .next .0) (x .rec .next .0 - startOf (x .rec .next .0) s) → Taken x s n z
 
 module _ (x : State) (s : SFields) (n : ℕ) (st : Stage) (agreed : agrees (x .rec) (x .words) ≡ true) (narrow : s .d ≤ largestSpan) where
   abbrev start : WideTick
@@ -100,22 +102,23 @@ module _ (x : State) (s : SFields) (n : ℕ) (st : Stage) (agreed : agrees (x .r
       e
 
   -- by an outcome that is the rows', with m references of which the append is accepted where that is
-  by-outcome : (o : Outcome) (goal : Stage) (m : ℕ) → lowest (appendedRows x s) ≡ outcomeNumber o → cond (negative s) Filled Open ≡ goal →
+  by-outcome : (o : Outcome) (goal : Stage) (m : ℕ) → lowest (appendedRows x s) ≡ outcomeNumber o → Told o (start .0 - x .rec .next .0) (x .rec .next .0 - start .0) →
+      cond (negative s) Filled Open ≡ goal →
       (o ≡ outcome.Accepted → (countOf x s ≡ m) × (appendOutcome (x .rec) (x .words) standing (s .d) m ≡ outcome.Accepted)) →
       Taken x s n (appendedBy o goal before (x .words) (s .d) m)
   unfolding settledReading wordsBy
-  by-outcome outcome.Accepted goal m e g f =
+  by-outcome outcome.Accepted goal m e t g f =
       let d = s .d in
       let o = f refl .1 in
       let is : after x (callOf x s) ≡ record { rec = appended (x .rec) (x .words) d m; words = wordsKeeping (x .words) (unspentOf (x .rec) (x .words) d m) } =
       ap (λ (k : ℕ). after x (byTick start d k)) (f refl .0) ∙ left-is m o
       in
       on e
-      (ap₂ (λ (t : Stage) (y : State). record { reading = record { stage = t; lines = n + 1; rec = y .rec }; words = y .words }) (sym g) (sym is))
+      (ap₂ (λ (u : Stage) (y : State). record { reading = record { stage = u; lines = n + 1; rec = y .rec }; words = y .words }) (sym g) (sym is))
       (ap (λ (y : State). agrees (y .rec) (y .words)) is ∙ accepted-keeps (x .rec) (x .words) standing d m narrow o)
       (ap (λ (y : State). length (y .words)) is ∙
       canonical-length (length (x .words)) (unspentOf (x .rec) (x .words) d m) (taken (x .rec) (x .words) standing d m o .room))
-  by-outcome (outcome.Refused why) goal m e g f = off why refl refl e
+  by-outcome (outcome.Refused why) goal m e t g f = off why refl refl e t
 
   -- the rows by the sign of r, with the count that goes with it
   abbrev countBy : Bool → ℕ
@@ -169,9 +172,11 @@ module _ (x : State) (s : SFields) (n : ℕ) (st : Stage) (agreed : agrees (x .r
       go : (b : Bool) → negative s ≡ b → Taken x s n (takeS before (x .words) standing s)
       go false e =
           subst (Taken x s n) (by-sign true (lt-ltb (s .r) firstNegative (leb-false firstNegative (s .r) e)))
-          (by-outcome (appendOutcome (x .rec) (x .words) standing (s .d) (s .r + 1)) Open (s .r + 1) (plain-number e) (ap (λ b. cond b Filled Open) e)
+          (by-outcome (appendOutcome (x .rec) (x .words) standing (s .d) (s .r + 1)) Open (s .r + 1) (plain-number e)
+          (append-told _ _ (x .rec) (x .words) standing (s .d) (s .r + 1) (tick-far start (x .rec .next))) (ap (λ b. cond b Filled Open) e)
           (λ o. (ap countBy e, o)))
       go true e =
           subst (Taken x s n) (by-sign false (le-ltb (s .r) firstNegative (leb-true firstNegative (s .r) e)))
-          (by-outcome (reachOutcome (x .rec) (x .words) standing (s .d) searched) Filled searched (negative-number e) (ap (λ b. cond b Filled Open) e)
+          (by-outcome (reachOutcome (x .rec) (x .words) standing (s .d) searched) Filled searched (negative-number e)
+          (reach-told _ _ (x .rec) (x .words) standing (s .d) searched (tick-far start (x .rec .next))) (ap (λ b. cond b Filled Open) e)
           (negative-taken e))

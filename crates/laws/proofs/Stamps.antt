@@ -37,7 +37,7 @@ distance-small : (a b : ℕ) → less32 a b < 2 ^ 32
 unfolding less32
 distance-small a b = omega arith
 
-distance-shows : (a b : ℕ) → a < 2 ^ 32 → (b + less32 a b) % 2 ^ 32 ≡ a
+pub distance-shows : (a b : ℕ) → a < 2 ^ 32 → (b + less32 a b) % 2 ^ 32 ≡ a
 unfolding less32
 distance-shows a b l = omega arith
 

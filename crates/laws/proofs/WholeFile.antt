@@ -25,7 +25,7 @@ use Rattle.file.specs.Judging.{File, firstNegative, headIn}
 use Rattle.file.specs.Sound.{Narrow}
 use Rattle.laws.specs.Calls.{Call, State, after, afterCalls, opening, outcomeOf}
 use Rattle.laws.specs.Refusals.{lowest, overLimit}
-use Rattle.laws.specs.Lines.{lineKind, openingTick, negative, callOf, Place, afterHead, afterS, afterNegative, afterEnd, among, Sofar, appendedRows, stopRows, fieldRows, lineRows, taking, Result, accepted, refusedAt, unlessRefused, judged, beginning}
+use Rattle.laws.specs.Lines.{lineKind, openingTick, negative, callOf, Place, afterHead, afterS, afterNegative, afterEnd, among, Sofar, appendedRows, stopRows, fieldRows, lineRows, lineDistance, taking, Result, accepted, refusedAt, unlessRefused, judged, beginning}
 use Rattle.laws.specs.Reading.{fileFrames, NegativeLast, StandsFor, StandFor, AllAccepted}
 use Rattle.laws.proofs.NoRow.{none-holds, refused-number, number-accepted}
 use Rattle.laws.proofs.SLines.{Taken, on, off, s-taken}
@@ -35,10 +35,11 @@ use Rattle.laws.proofs.Bytes.{AllNarrow}
 
 -- ---- a number of 0
 
-unless-zero : (came : List ℕ) (line number : ℕ) (more : Result) → unlessRefused came line number more .number ≡ 0 → (number ≡ 0) × (more .number ≡ 0)
-unless-zero came line number more e = go (eqb number 0) refl e
+unless-zero : (came : List ℕ) (line number distance : ℕ) (more : Result) → unlessRefused came line number distance more .number ≡ 0 →
+    (number ≡ 0) × (more .number ≡ 0)
+unless-zero came line number distance more e = go (eqb number 0) refl e
   where
-    go : (b : Bool) → eqb number 0 ≡ b → cond b more (refusedAt came line number) .number ≡ 0 → (number ≡ 0) × (more .number ≡ 0)
+    go : (b : Bool) → eqb number 0 ≡ b → cond b more (refusedAt came line number distance) .number ≡ 0 → (number ≡ 0) × (more .number ≡ 0)
     go true p q = (eqb-true number 0 p, q)
     go false p q = absurd (eqb-false number 0 p q)
 
@@ -49,7 +50,7 @@ s-agrees x s agreed narrowed e = go _ (s-taken x s 0 Open agreed narrowed)
   where
     go : (z : File) → Taken x s 0 z → agrees (after x (callOf x s) .rec) (after x (callOf x s) .words) ≡ true
     go z (on n is a l) = a
-    go z (off why st l n) = absurd (true≢false (ap (λ (m : ℕ). eqb m 0) (sym e) ∙ refused-number why (lowest (appendedRows x s)) n))
+    go z (off why st l n t) = absurd (true≢false (ap (λ (m : ℕ). eqb m 0) (sym e) ∙ refused-number why (lowest (appendedRows x s)) n))
 
 -- ---- from the rows to the file
 
@@ -70,11 +71,11 @@ module _ (came : List ℕ) (h : Head) where
   end-only : (k : ℕ) (x : State) (line : ℕ) (fs : List Frame) (rest : List ℕ) → judged came (at afterEnd h k x) line fs rest .number ≡ 0 → (fs ≡ []) × (rest ≡ [])
   unfolding judged
   end-only k x line [] rest e =
-      (refl, nothing rest (none-holds (stopRows (at afterEnd h k x) rest) (omega arith) (unless-zero came line _ _ e .0) .1 .0))
+      (refl, nothing rest (none-holds (stopRows (at afterEnd h k x) rest) (omega arith) (unless-zero came line _ _ _ e .0) .1 .0))
   end-only k x line (f ∷ fs) rest e =
       absurd
       (extra (not (among (lineKind f) (1 ∷ 2 ∷ 3 ∷ []))) ((not (among (lineKind f) []), 17) ∷ fieldRows came (at afterEnd h k x) f)
-      (unless-zero came line (lowest (lineRows came (at afterEnd h k x) f)) _ e .0))
+      (unless-zero came line (lowest (lineRows came (at afterEnd h k x) f)) _ _ e .0))
 
   -- the end line behind k S lines
   ends : (k m : ℕ) (x : State) (line : ℕ) (fs : List Frame) (rest : List ℕ) → lowest ((not (eqb m k), 17) ∷ []) ≡ 0 →
@@ -92,7 +93,7 @@ module _ (came : List ℕ) (h : Head) where
   negative-only k x line (HeadFrame g ∷ fs) rest e = let z : ⊥ = omega arith in absurd z
   negative-only k x line (S s ∷ fs) rest e = let z : ⊥ = omega arith in absurd z
   negative-only k x line (End m ∷ fs) rest e =
-      let n = unless-zero came line (lowest ((not (eqb m k), 17) ∷ [])) (judged came (at afterEnd h k x) (line + 1) fs rest) e in
+      let n = unless-zero came line (lowest ((not (eqb m k), 17) ∷ [])) _ (judged came (at afterEnd h k x) (line + 1) fs rest) e in
       ends k m x (line + 1) fs rest (n .0) (n .1)
   negative-only k x line (Clock c ∷ fs) rest e = let z : ⊥ = omega arith in absurd z
   negative-only k x line (Bad ∷ fs) rest e = let z : ⊥ = omega arith in absurd z
@@ -169,7 +170,7 @@ module _ (came : List ℕ) (h : Head) where
   running-only [] rest k x line a w e = let z : ⊥ = omega arith in absurd z
   running-only (HeadFrame g ∷ fs) rest k x line a w e = let z : ⊥ = omega arith in absurd z
   running-only (S s ∷ fs) rest k x line a w e =
-      let n = unless-zero came line (lowest (lineRows came (late came h k x s) (S s))) (judged came (taking came (late came h k x s) (S s)) (line + 1) fs rest) e in
+      let n = unless-zero came line (lowest (lineRows came (late came h k x s) (S s))) _ (judged came (taking came (late came h k x s) (S s)) (line + 1) fs rest) e in
       let rows : lowest (appendedRows x s) ≡ 0 = sym (late-number came h k x s) ∙ n .0 in
       from-s (k + 1) x s fs rest
       (s-follows came h (k + 1) x s (line + 1) fs rest a (w .0) rows
@@ -177,7 +178,7 @@ module _ (came : List ℕ) (h : Head) where
       n .1)
       (running-only fs rest (k + 1) (after x (callOf x s)) (line + 1) (s-agrees x s a (w .0) rows) (w .1)))
   running-only (End m ∷ fs) rest k x line a w e =
-      let n = unless-zero came line (lowest ((not (eqb m (k + 1)), 17) ∷ [])) (judged came (at afterEnd h (k + 1) x) (line + 1) fs rest) e in
+      let n = unless-zero came line (lowest ((not (eqb m (k + 1)), 17) ∷ [])) _ (judged came (at afterEnd h (k + 1) x) (line + 1) fs rest) e in
       let t = ends came h (k + 1) m x (line + 1) fs rest (n .0) (n .1) in
       record { ss = []; cs = []; frames = t .0 ∙ ap (λ (j : ℕ). End j ∷ []) (omega arith); done = t .1; last = tt; stand = tt; accepted = tt }
   running-only (Clock c ∷ fs) rest k x line a w e = let z : ⊥ = omega arith in absurd z
@@ -227,7 +228,7 @@ module _ (came : List ℕ) (rest : List ℕ) where
       let h = headIn l in
       let y = opening h (openingTick s) came in
       let n =
-      unless-zero came 2 (lowest ((overLimit h (openingTick s), 1) ∷ appendedRows y s))
+      unless-zero came 2 (lowest ((overLimit h (openingTick s), 1) ∷ appendedRows y s)) _
       (judged came (at (cond (negative s) afterNegative afterS) h 1 (after y (callOf y s))) 3 fs rest)
       e
       in
@@ -246,7 +247,7 @@ module _ (came : List ℕ) (rest : List ℕ) where
   whole-only [] w e = let z : ⊥ = omega arith in absurd z
   whole-only (HeadFrame f ∷ fs) w e =
       headed-only f (beginning came .timeline) fs (w .1)
-      (unless-zero came 1 (lowest (lineRows came (beginning came) (HeadFrame f))) (judged came (at afterHead (headIn f) 0 (beginning came .timeline)) 2 fs rest) e .1)
+      (unless-zero came 1 (lowest (lineRows came (beginning came) (HeadFrame f))) _ (judged came (at afterHead (headIn f) 0 (beginning came .timeline)) 2 fs rest) e .1)
   whole-only (S s ∷ fs) w e = let z : ⊥ = omega arith in absurd z
   whole-only (End m ∷ fs) w e = let z : ⊥ = omega arith in absurd z
   whole-only (Clock c ∷ fs) w e = let z : ⊥ = omega arith in absurd z
@@ -257,7 +258,7 @@ module _ (came : List ℕ) (rest : List ℕ) where
 goes-on : (came : List ℕ) (x : Sofar) (line : ℕ) (f : Frame) (fs : List Frame) (rest : List ℕ) → lowest (lineRows came x f) ≡ 0 →
     judged came x line (f ∷ fs) rest ≡ judged came (taking came x f) (line + 1) fs rest
 unfolding judged
-goes-on came x line f fs rest e = ap (λ (n : ℕ). unlessRefused came line n (judged came (taking came x f) (line + 1) fs rest)) e
+goes-on came x line f fs rest e = ap (λ (n : ℕ). unlessRefused came line n (lineDistance came x f n) (judged came (taking came x f) (line + 1) fs rest)) e
 
 module _ (came : List ℕ) (h : Head) where
   end-if : (b : Bool) (k : ℕ) (x : State) (line : ℕ) → judged came (at (cond b afterNegative afterS) h k x) line (End k ∷ []) [] ≡ accepted x

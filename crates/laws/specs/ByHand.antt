@@ -5,6 +5,7 @@ use mathlib.Core.Path.{_≡_}
 use mathlib.Core.List.{List, [], _∷_, _++_}
 use lib.IntN.{pos}
 use lib.ListN.{length, drop, replicate}
+use Rattle.units.specs.declared.Distance.{Distance}
 use Rattle.units.specs.declared.Grain.{Grain}
 use Rattle.units.specs.declared.WideMillis.{WideMillis}
 use Rattle.units.specs.declared.WideNumber.{WideNumber}
@@ -17,8 +18,9 @@ use Rattle.window.specs.declared.Head.{Head}
 use Rattle.window.specs.declared.Needed.the-variants.{Ticks}
 use Rattle.window.specs.Window.{wholePeriod}
 use Rattle.window.specs.Ticks.{NeededTicks}
+use Rattle.agreement.specs.declared.refusal.Refusal.the-variants as refusal
 use Rattle.keeping.specs.declared.Outcome.{Outcome}
-use Rattle.keeping.specs.declared.Outcome.the-variants.{Accepted}
+use Rattle.keeping.specs.declared.Outcome.the-variants.{Accepted, Refused}
 use Rattle.keeping.specs.Keeping.{outcomeNumber}
 use Rattle.timeline.specs.Opening.{openAnswer}
 use Rattle.answers.specs.declared.Verdict.the-variants.{Nothing, Complete, Lacking}
@@ -54,6 +56,16 @@ number n = record { 0 = n }
 
 abbrev pub grains : ℕ → Grain
 grains n = record { 0 = pos n }
+
+abbrev pub apart : ℕ → Distance
+apart n = record { 0 = n }
+
+-- 4 and 5, with their distances
+abbrev pub gapBy : ℕ → Outcome
+gapBy n = Refused (refusal.Gap (apart n))
+
+abbrev pub overlapBy : ℕ → Outcome
+overlapBy n = Refused (refusal.Overlap (apart n))
 
 -- ---- calls
 
@@ -163,13 +175,13 @@ fileD =
     []
 
 pub record ByHand : Type 0 where
-  -- A: both appends are accepted, and the next tick is 161; a start of 170 is refusal 4
+  -- A: both appends are accepted, and the next tick is 161; a start of 170 is refusal 4, by 9 ticks
   pub a-open : openAnswer headA (tick 111) .outcome ≡ Accepted
   pub a-first : appendOf openA 111 40 1 ≡ Accepted
   pub a-second : appendOf firstA 151 10 1 ≡ Accepted
   pub a-next : bothA .rec .next ≡ tick 161
   pub a-state : bothA ≡ stateOf headA 2 0 161 0 2 (111 ∷ 40 ∷ 1 ∷ 151 ∷ 10 ∷ 1 ∷ [])
-  pub a-gap : outcomeNumber (appendOf bothA 170 10 1) ≡ 4
+  pub a-gap : appendOf bothA 170 10 1 ≡ gapBy 9
   -- A: the first is available from 35.1 s on; the whole period needs 100 ticks, 50 are covered, and tick 100 is lacking
   pub a-available : availabilityIn (bothA .rec) (bothA .words) (number 0) ≡ NeverEnds (grains 351_000)
   pub a-whole : verdictWhole (bothA .rec) (bothA .words) ≡ Lacking 100 50 (wide 100)
@@ -202,19 +214,19 @@ pub record ByHand : Type 0 where
   pub b-written : (out : List ℕ) → 145 ≤ length out → writeAnswer (trimB3 .rec) (trimB3 .words) (length out) ≡ Written 145
   pub b-file : (out : List ℕ) → 145 ≤ length out → output (trimB3 .rec) (trimB3 .words) out ≡ fileB ++ drop 145 out
   pub b-short : (room : ℕ) → room < 145 → writeNumber (writeAnswer (trimB3 .rec) (trimB3 .words) room) ≡ 15
-  -- C: stamps around the next tick, and at half of the circle
+  -- C: stamps around the next tick, and at half of the circle, with their distances
   pub c-joins : stampStanding (stamp 2704) nextC ≡ Joins
-  pub c-gap : stampStanding (stamp 2705) nextC ≡ Gap
-  pub c-overlap : stampStanding (stamp 2703) nextC ≡ Overlap
-  pub c-last-gap : stampStanding (stamp 2_147_486_351) nextC ≡ Gap
-  pub c-first-overlap : stampStanding (stamp 2_147_486_352) nextC ≡ Overlap
-  -- C: the same stamps as appends: 0 where it joins, 4 at a gap, 5 at an overlap
+  pub c-gap : stampStanding (stamp 2705) nextC ≡ Gap (apart 1)
+  pub c-overlap : stampStanding (stamp 2703) nextC ≡ Overlap (apart 1)
+  pub c-last-gap : stampStanding (stamp 2_147_486_351) nextC ≡ Gap (apart 2_147_483_647)
+  pub c-first-overlap : stampStanding (stamp 2_147_486_352) nextC ≡ Overlap (apart 2_147_483_648)
+  -- C: the same stamps as appends: accepted where it joins, 4 at a gap, 5 at an overlap
   pub c-open : openAnswer headC nextC .outcome ≡ Accepted
-  pub c-2704 : outcomeNumber (stampOf openC 2704 1000 1) ≡ 0
-  pub c-2705 : outcomeNumber (stampOf openC 2705 1000 1) ≡ 4
-  pub c-2703 : outcomeNumber (stampOf openC 2703 1000 1) ≡ 5
-  pub c-2147486351 : outcomeNumber (stampOf openC 2_147_486_351 1000 1) ≡ 4
-  pub c-2147486352 : outcomeNumber (stampOf openC 2_147_486_352 1000 1) ≡ 5
+  pub c-2704 : stampOf openC 2704 1000 1 ≡ Accepted
+  pub c-2705 : stampOf openC 2705 1000 1 ≡ gapBy 1
+  pub c-2703 : stampOf openC 2703 1000 1 ≡ overlapBy 1
+  pub c-2147486351 : stampOf openC 2_147_486_351 1000 1 ≡ gapBy 2_147_483_647
+  pub c-2147486352 : stampOf openC 2_147_486_352 1000 1 ≡ overlapBy 2_147_483_648
   pub c-state : stamping openC 2704 1000 1 ≡ stateOf headC 1 0 4_294_971_000 0 1 (4_294_970_000 ∷ 1000 ∷ 1 ∷ [])
   -- D: ticks 0 and 1 are needed, and with one reference of 1 tick 1 is lacking
   pub d-open : openAnswer headD (tick 0) .outcome ≡ Accepted

@@ -1,11 +1,11 @@
 -- Demand 1. Every entry point takes any input, and answers it with the paper's number: the lowest whose condition holds, 0 where none does
 -- (the rows of Refusals, and for a file those of Lines). A refused call returns the record as it came and changes no word and no byte,
 -- with these exceptions. A refused opening answers a zero record. A refused reading answers a zero record and the line, and zeroes the
--- table. The part that a span lookup hands back is empty. A verdict, an availability, a full tick and a covered edge give their number
+-- table. With 4 and 5 an append and a reading answer the distance, and C's append writes it to out. The part that a span lookup hands back is empty. A verdict, an availability, a full tick and a covered edge give their number
 -- and nothing else. Of each function this is said over the contract that the check itself makes of it (Unique says what its parts are,
 -- and has the functions that never refuse). For C the lengths of record and out are judged first.
 -- Paper: Refusal numbers; What a statement must leave no room for.
-use Prim.Native.Nat.{ℕ, _≤_}
+use Prim.Native.Nat.{ℕ, _-_, _^_, _≤_, _<_}
 use mathlib.Core.Path.{_≡_}
 use mathlib.Core.Bool.{Bool, true, false, not}
 use mathlib.Core.List.{List, [], _∷_}
@@ -13,12 +13,14 @@ use denote.Ref.{now}
 use lib.Dec.{eqb}
 use lib.ListN.{length, replicate}
 use Rattle.units.specs.Limits.{largestSpan, tickOf}
+use Rattle.units.specs.Standing.{less32}
 use Rattle.window.specs.declared.Head.{Head}
 use Rattle.window.specs.Limits.{headOf}
 use Rattle.agreement.specs.declared.Record.{Record}
 use Rattle.agreement.specs.declared.refusal.Refusal.{Refusal}
+use Rattle.agreement.specs.Rows.{_when_else_}
 use Rattle.keeping.specs.declared.Changed.{Changed}
-use Rattle.keeping.specs.Keeping.{outcomeNumber}
+use Rattle.keeping.specs.Keeping.{outcomeNumber, outcomeDistance}
 use Rattle.timeline.specs.Opening.{zeroRecord}
 use Rattle.answers.specs.declared.Verdict.the-variants.{Refused as VerdictRefused}
 use Rattle.answers.specs.Numbers.{verdictNumber, edgeNumber}
@@ -40,7 +42,7 @@ use Rattle.file.proofs as file
 use Rattle.writing.proofs as writing
 use Rattle.report.proofs as report
 use Rattle.flonterri.proofs as c
-use Rattle.laws.specs.Refusals.{lowest, openRows, appendTickRows, appendStampRows, trimRows, verdictRows, wholeRows, availabilityRows, availableRows, touchingRows, writeRows, fullTickRows, edgeRows}
+use Rattle.laws.specs.Refusals.{lowest, isApart, distanceWith, openRows, appendTickRows, appendStampRows, trimRows, verdictRows, wholeRows, availabilityRows, availableRows, touchingRows, writeRows, fullTickRows, edgeRows}
 use Rattle.laws.specs.Lines.{judgedFile}
 use Rattle.laws.specs.Unique.{AnyInput}
 
@@ -55,6 +57,11 @@ pub record GivesNumber (n : ℕ) (rows : List (Bool × ℕ)) (left : Type 0) : T
 abbrev pub Changes : Changed → List ℕ → List (Bool × ℕ) → Record → List ℕ → Type 0
 Changes x after rows rec ws = GivesNumber (outcomeNumber (x .outcome)) rows ((x .rec ≡ rec) × (after ≡ ws))
 
+-- an append: the same, and with 4 and 5 its distance, of a start that lies so far after the next tick or so far before it
+pub record Appends (x : Changed) (after : List ℕ) (rows : List (Bool × ℕ)) (rec : Record) (ws : List ℕ) (ahead behind : ℕ) : Type 0 where
+  pub changes : Changes x after rows rec ws
+  pub distance : outcomeDistance (x .outcome) ≡ distanceWith (outcomeNumber (x .outcome)) ahead behind
+
 -- an answer is a refusal and nothing else
 abbrev pub Only : {A : Type 0} → (Refusal → A) → A → Type 0
 Only refused x = (why : Refusal) × (x ≡ refused why)
@@ -64,10 +71,11 @@ pub record Zeroes (x : ReadAnswer) (after before : List ℕ) : Type 0 where
   pub accepted : outcomeNumber (x .outcome) ≡ 0 → x .line ≡ 0
   pub refused : (outcomeNumber (x .outcome) ≡ 0 → ⊥) → (x .rec ≡ zeroRecord) × (1 ≤ x .line) × (after ≡ replicate (length before) 0)
 
--- of a whole file: its number and its line are those of the first refused line, by the rows of Lines
+-- of a whole file: its number, its line and its distance are those of the first refused line, by the rows of Lines
 pub record Reads (bytes : List ℕ) (x : ReadAnswer) (after before : List ℕ) : Type 0 where
   pub number : outcomeNumber (x .outcome) ≡ judgedFile bytes before .number
   pub line : x .line ≡ judgedFile bytes before .line
+  pub distance : outcomeDistance (x .outcome) ≡ judgedFile bytes before .distance
   pub left : Zeroes x after before
 
 -- a reader that is fed: where it and the table do not belong together, neither changes
@@ -94,6 +102,12 @@ lengthRows ws out size rows = recordRows ws ((not (eqb (length out) size), 15) �
 abbrev pub ChangesFromC : ℕ → List ℕ → List ℕ → List ℕ → List ℕ → List (Bool × ℕ) → Type 0
 ChangesFromC n ws ts ws-after ts-after rows = GivesNumber n (recordRows ws rows) ((ws-after ≡ ws) × (ts-after ≡ ts))
 
+-- an append: refused, record and table as they came; out has the distance where the number is 4 or 5, and else is as it came
+pub record AppendsFromC (n : ℕ) (ws ts out ws-after ts-after out-after : List ℕ) (rows : List (Bool × ℕ)) (ahead behind : ℕ) : Type 0 where
+  pub number : n ≡ lowest (lengthRows ws out 1 rows)
+  pub refused : (n ≡ 0 → ⊥) → (ws-after ≡ ws) × (ts-after ≡ ts)
+  pub distance : out-after ≡ ((distanceWith n ahead behind ∷ []) when isApart n else out)
+
 -- an opening: a record of another length stays as it came, and one of 12 words is zeroed where a field is over its limit
 pub record OpensFromC (n : ℕ) (ws ts : List ℕ) (h : Head) (tick : ℕ) (ws-after ts-after : List ℕ) : Type 0 where
   pub number : n ≡ lowest (recordRows ws (openRows h (record { 0 = tick })))
@@ -104,13 +118,13 @@ pub record OpensFromC (n : ℕ) (ws ts : List ℕ) (h : Head) (tick : ℕ) (ws-a
 abbrev pub TellsC : {A : Type 0} → ℕ → List ℕ → ℕ → List (Bool × ℕ) → List A → List A → Type 0
 TellsC n ws size rows out out-after = GivesNumber n (lengthRows ws out size rows) (out-after ≡ out)
 
--- a reading: lengths that are not right leave all as it came; else number and line are the file's, and a refused file leaves zeros
+-- a reading: lengths that are not right leave all as it came; else number, line and distance are the file's, and a refused file leaves zeros
 pub record ReadsFromC (bytes : List ℕ) (n : ℕ) (ws ts out ws-after ts-after out-after : List ℕ) : Type 0 where
-  pub lengths : (lowest (lengthRows ws out 1 []) ≡ 0 → ⊥) →
-      (n ≡ lowest (lengthRows ws out 1 [])) × (ws-after ≡ ws) × (ts-after ≡ ts) × (out-after ≡ out)
-  pub number : lowest (lengthRows ws out 1 []) ≡ 0 → n ≡ judgedFile bytes ts .number
-  pub line : lowest (lengthRows ws out 1 []) ≡ 0 → out-after ≡ judgedFile bytes ts .line ∷ []
-  pub refused : lowest (lengthRows ws out 1 []) ≡ 0 → (n ≡ 0 → ⊥) → (ws-after ≡ replicate recordWords 0) × (ts-after ≡ replicate (length ts) 0)
+  pub lengths : (lowest (lengthRows ws out 2 []) ≡ 0 → ⊥) →
+      (n ≡ lowest (lengthRows ws out 2 [])) × (ws-after ≡ ws) × (ts-after ≡ ts) × (out-after ≡ out)
+  pub number : lowest (lengthRows ws out 2 []) ≡ 0 → n ≡ judgedFile bytes ts .number
+  pub line : lowest (lengthRows ws out 2 []) ≡ 0 → out-after ≡ judgedFile bytes ts .line ∷ judgedFile bytes ts .distance ∷ []
+  pub refused : lowest (lengthRows ws out 2 []) ≡ 0 → (n ≡ 0 → ⊥) → (ws-after ≡ replicate recordWords 0) × (ts-after ≡ replicate (length ts) 0)
 
 -- ---- any input gets an answer
 
@@ -125,13 +139,15 @@ pub record Demand1 : Type 0 where
   pub opening : Answers timeline.«open».Reads.Asked timeline.«open».Reads.Learnt
       (λ (fields, (first, (table, _))) x (_, (_, (table′, _))).
       Changes x (now table′) (openRows (headOf fields) (tickOf first)) zeroRecord (now table))
-  -- a duration is one of 32 bits, as its type says
+  -- a duration and a stamp are of 32 bits, as their types say
   pub append : Answers timeline.append.Reads.Asked timeline.append.Reads.Learnt
       (λ (rec, (table, (start, (duration, (count, _))))) x (_, (table′, _)). duration ≤ largestSpan →
-      Changes x (now table′) (appendTickRows rec (now table) start duration count) rec (now table))
+      Appends x (now table′) (appendTickRows rec (now table) start duration count) rec (now table)
+      (start .0 - rec .next .0) (rec .next .0 - start .0))
   pub append-stamp : Answers timeline.append_stamp.Reads.Asked timeline.append_stamp.Reads.Learnt
-      (λ (rec, (table, (stamp, (duration, (count, _))))) x (_, (table′, _)). duration ≤ largestSpan →
-      Changes x (now table′) (appendStampRows rec (now table) stamp duration count) rec (now table))
+      (λ (rec, (table, (stamp, (duration, (count, _))))) x (_, (table′, _)). duration ≤ largestSpan → stamp .0 < 2 ^ 32 →
+      Appends x (now table′) (appendStampRows rec (now table) stamp duration count) rec (now table)
+      (less32 (stamp .0) (rec .next .0)) (less32 (rec .next .0) (stamp .0)))
   pub trim : Answers timeline.trim.Reads.Asked timeline.trim.Reads.Learnt
       (λ (rec, (table, (clock, _))) x (_, (table′, _)). Changes x (now table′) (trimRows rec (now table) clock) rec (now table))
   -- the calls that look: no word of the table can change
@@ -176,13 +192,15 @@ pub record Demand1 : Type 0 where
       OpensFromC x (now rec) (now table) (headWith timescale offset start duration depth number update) first (now rec′) (now table′))
   -- C, appends and trim
   pub c-append : Answers c.flonterri_append.Reads.Asked c.flonterri_append.Reads.Learnt
-      (λ (rec, (table, (start, (duration, (count, _))))) x (rec′, (table′, _)). duration ≤ largestSpan →
-      ChangesFromC x (now rec) (now table) (now rec′) (now table′)
-      (appendTickRows (recordOf (now rec)) (now table) (record { 0 = start }) duration count))
+      (λ (rec, (table, (start, (duration, (count, (out, _)))))) x (rec′, (table′, (_, (_, (_, (out′, _)))))). duration ≤ largestSpan →
+      AppendsFromC x (now rec) (now table) (now out) (now rec′) (now table′) (now out′)
+      (appendTickRows (recordOf (now rec)) (now table) (record { 0 = start }) duration count)
+      (start - recordOf (now rec) .next .0) (recordOf (now rec) .next .0 - start))
   pub c-append-stamp : Answers c.flonterri_append_stamp.Reads.Asked c.flonterri_append_stamp.Reads.Learnt
-      (λ (rec, (table, (stamp, (duration, (count, _))))) x (rec′, (table′, _)). duration ≤ largestSpan →
-      ChangesFromC x (now rec) (now table) (now rec′) (now table′)
-      (appendStampRows (recordOf (now rec)) (now table) (record { 0 = stamp }) duration count))
+      (λ (rec, (table, (stamp, (duration, (count, (out, _)))))) x (rec′, (table′, (_, (_, (_, (out′, _)))))). duration ≤ largestSpan → stamp < 2 ^ 32 →
+      AppendsFromC x (now rec) (now table) (now out) (now rec′) (now table′) (now out′)
+      (appendStampRows (recordOf (now rec)) (now table) (record { 0 = stamp }) duration count)
+      (less32 stamp (recordOf (now rec) .next .0)) (less32 (recordOf (now rec) .next .0) stamp))
   pub c-trim : Answers c.flonterri_trim.Reads.Asked c.flonterri_trim.Reads.Learnt
       (λ (rec, (table, (clock, _))) x (rec′, (table′, _)).
       ChangesFromC x (now rec) (now table) (now rec′) (now table′) (trimRows (recordOf (now rec)) (now table) (record { 0 = clock })))

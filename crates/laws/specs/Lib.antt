@@ -3,6 +3,7 @@ pub mod Calls
 pub mod Constructors
 pub mod Demand2
 pub mod Desk
+pub mod Distance
 pub mod Division
 pub mod Edge
 pub mod History

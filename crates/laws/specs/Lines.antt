@@ -1,8 +1,8 @@
 -- Which line of a file is refused, and with what. A line is refused with the number of the first row that holds: 16 where it is no line of a file or
 -- one too many, 17 where its kind may not stand here, then by its fields. An S line stands for an append to the timeline as it is then, and the first
--- S opens that timeline. Lines are judged in order and the first refused one decides; a file that stops early, or in the middle of a line, is refused
+-- S opens that timeline; with 4 and 5 comes how far its start lies from the next tick. Lines are judged in order and the first refused one decides; a file that stops early, or in the middle of a line, is refused
 -- at the line that it lacks. A refused file leaves a zero record and a zeroed table. Paper: The file; Refusal numbers, and the orders below the table.
-use Prim.Native.Nat.{ℕ, _+_, _*_, _^_}
+use Prim.Native.Nat.{ℕ, _+_, _-_, _*_, _^_}
 use mathlib.Core.Bool.{Bool, false, cond, not, _&&_, _||_}
 use mathlib.Core.List.{List, [], _∷_, map}
 use lib.Dec.{eqb, leb, ltb}
@@ -20,7 +20,7 @@ use Rattle.file.specs.Lines.{linesOf, restOf}
 use Rattle.file.specs.Judging.{absent, headIn}
 use Rattle.file.specs.Least.{leastCount}
 use Rattle.laws.specs.Calls.{Call, byTick, State, after, opening}
-use Rattle.laws.specs.Refusals.{lowest, overLimit, startsPast, noRunLeft, appendRows}
+use Rattle.laws.specs.Refusals.{lowest, distanceWith, overLimit, startsPast, noRunLeft, appendRows}
 
 -- ---- what an S line says
 
@@ -142,6 +142,16 @@ lineRows came x f =
     (not (among (lineKind f) (mayStand (x .place))), 17) ∷
     fieldRows came x f
 
+-- the distance that comes with a line's number: that of an S line's start from the next tick of the timeline that it is judged on
+abbrev pub lineDistance : List ℕ → Sofar → Frame → ℕ → ℕ
+lineDistance came x (S s) number =
+    let next = timelineFor came x s .rec .next .0 in
+    distanceWith number (startOf next s - next) (next - startOf next s)
+lineDistance came x (HeadFrame h) number = 0
+lineDistance came x (End n) number = 0
+lineDistance came x (Clock c) number = 0
+lineDistance came x Bad number = 0
+
 -- ---- the whole file
 
 -- what a line that is not refused leaves: an S line its append
@@ -154,27 +164,30 @@ taking came x (End n) = record { place = afterEnd; head = x .head; count = x .co
 taking came x (Clock c) = x
 taking came x Bad = x
 
--- what reading comes to: the number, 0 where the file is accepted; the refused line, or 0; the record and the table
+-- what reading comes to: the number, 0 where the file is accepted; the refused line, or 0; the distance, or 0; the record and the table
 pub record Result : Type 0 where
   pub number : ℕ
   pub line : ℕ
+  pub distance : ℕ
   pub rec : Record
   pub words : List ℕ
 
 abbrev pub accepted : State → Result
-accepted x = record { number = 0; line = 0; rec = x .rec; words = x .words }
+accepted x = record { number = 0; line = 0; distance = 0; rec = x .rec; words = x .words }
 
-abbrev pub refusedAt : List ℕ → ℕ → ℕ → Result
-refusedAt came line number = record { number = number; line = line; rec = zeroRecord; words = replicate (length came) 0 }
+abbrev pub refusedAt : List ℕ → ℕ → ℕ → ℕ → Result
+refusedAt came line number distance = record { number = number; line = line; distance = distance; rec = zeroRecord; words = replicate (length came) 0 }
 
 -- a line that has the number 0 is taken; any other number decides
-abbrev pub unlessRefused : List ℕ → ℕ → ℕ → Result → Result
-unlessRefused came line number on = cond (eqb number 0) on (refusedAt came line number)
+abbrev pub unlessRefused : List ℕ → ℕ → ℕ → ℕ → Result → Result
+unlessRefused came line number distance on = cond (eqb number 0) on (refusedAt came line number distance)
 
 -- the lines from the given one on, where `rest` stands behind the last feed
 unfoldable pub judged : List ℕ → Sofar → ℕ → List Frame → List ℕ → Result
-judged came x line [] rest = unlessRefused came line (lowest (stopRows x rest)) (accepted (x .timeline))
-judged came x line (f ∷ fs) rest = unlessRefused came line (lowest (lineRows came x f)) (judged came (taking came x f) (line + 1) fs rest)
+judged came x line [] rest = unlessRefused came line (lowest (stopRows x rest)) 0 (accepted (x .timeline))
+judged came x line (f ∷ fs) rest =
+    let number = lowest (lineRows came x f) in
+    unlessRefused came line number (lineDistance came x f number) (judged came (taking came x f) (line + 1) fs rest)
 
 -- no line has come: there is no head yet, and no timeline
 abbrev pub beginning : List ℕ → Sofar

@@ -1,6 +1,6 @@
 -- Reading, apart from the reader. A file is accepted exactly when its bytes are the lines of one head, one or more S and one end with their number, a
 -- negative r stands on the last S only, and the opening and every append that the S lines stand for are accepted. Reading is then just that opening
--- and those appends. In every case the number, the line, the record and the table are those that the rows of Lines give.
+-- and those appends. In every case the number, the line, the distance, the record and the table are those that the rows of Lines give.
 -- Paper: The file; Refusal numbers.
 use Prim.Native.Nat.{ℕ, _+_, _^_, _≤_, _<_}
 use mathlib.Core.Path.{_≡_}
@@ -10,7 +10,7 @@ use Rattle.units.specs.Exactly.{ExactlyWhen}
 use Rattle.window.specs.Ticks.{LeastCount}
 use Rattle.window.specs.declared.Head.{Head}
 use Rattle.keeping.specs.declared.Outcome.the-variants.{Accepted}
-use Rattle.keeping.specs.Keeping.{outcomeNumber}
+use Rattle.keeping.specs.Keeping.{outcomeNumber, outcomeDistance}
 use Rattle.timeline.specs.Opening.{openAnswer}
 use Rattle.frames.specs.declared.Frame.{Frame}
 use Rattle.frames.specs.declared.Frame.the-variants.{Head as HeadFrame, S, End}
@@ -105,6 +105,8 @@ pub record ReadingRight : Type 0 where
   pub number : (bytes came : List ℕ) → outcomeNumber (readAnswer bytes came .outcome) ≡ judgedFile bytes came .number
   -- the line is that line, a missing one where the file stops, and 0 where the file is accepted
   pub line : (bytes came : List ℕ) → readAnswer bytes came .line ≡ judgedFile bytes came .line
+  -- the distance is that of this line's start from the next tick, as it was then
+  pub distance : (bytes came : List ℕ) → outcomeDistance (readAnswer bytes came .outcome) ≡ judgedFile bytes came .distance
   -- the record is zero where the file is refused
   pub rec : (bytes came : List ℕ) → readAnswer bytes came .rec ≡ judgedFile bytes came .rec
   -- and the table is zeroed then

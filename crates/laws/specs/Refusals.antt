@@ -1,8 +1,9 @@
 -- Given exactly when. Each call gives the lowest number whose condition holds, and 0 where none does, for any record, table and
 -- arguments: so it refuses what it should, and nothing else. A call is a table with a row for each of its numbers, in the words of
--- the paper's column. An append's duration is one of 32 bits, as its type says. The rows of a file's lines stand in Lines.
+-- the paper's column. An append's duration is one of 32 bits, as its type says. With 4 and with 5 comes how far the start lies from the
+-- next tick, and with no other number. The rows of a file's lines stand in Lines.
 -- Paper: Refusal numbers.
-use Prim.Native.Nat.{ℕ, _+_, _*_, _^_, _≤_}
+use Prim.Native.Nat.{ℕ, _+_, _-_, _*_, _^_, _≤_, _<_}
 use mathlib.Core.Path.{_≡_}
 use mathlib.Core.Bool.{Bool, false, cond, not, _&&_, _||_}
 use mathlib.Core.List.{List, [], _∷_}
@@ -22,7 +23,7 @@ use Rattle.runs.specs.Words.{capacity}
 use Rattle.runs.specs.Encoding.{needsRun}
 use Rattle.agreement.specs.declared.Record.{Record}
 use Rattle.agreement.specs.Agreement.{agrees}
-use Rattle.keeping.specs.Keeping.{unspent, outcomeNumber}
+use Rattle.keeping.specs.Keeping.{unspent, outcomeNumber, outcomeDistance}
 use Rattle.keeping.specs.Append.{given}
 use Rattle.timeline.specs.Opening.{openAnswer}
 use Rattle.timeline.specs.Appending.{appendAnswer}
@@ -40,6 +41,14 @@ use Rattle.writing.specs.Writing.{fileFor, writeAnswer, writeNumber}
 abbrev pub lowest : List (Bool × ℕ) → ℕ
 lowest [] = 0
 lowest (row ∷ rows) = cond (row .0) (row .1) (lowest rows)
+
+-- the numbers of a gap and of an overlap
+abbrev pub isApart : ℕ → Bool
+isApart number = eqb number 4 || eqb number 5
+
+-- the distance that comes with a number, of a start that lies so far after the next tick or so far before it; 0 where none comes
+abbrev pub distanceWith : ℕ → ℕ → ℕ → ℕ
+distanceWith number after before = cond (eqb number 4) after (cond (eqb number 5) before 0)
 
 -- whether one of them at least passes a test
 unfoldable pub some : (Reference → Bool) → List Reference → Bool
@@ -132,6 +141,13 @@ pub record Refusals : Type 0 where
       outcomeNumber (appendAnswer rec ws (tickStanding start (rec .next)) d n .outcome) ≡ lowest (appendTickRows rec ws start d n)
   pub append-stamp : (rec : Record) (ws : List ℕ) (stamp : Stamp) (d n : ℕ) → d ≤ largestSpan →
       outcomeNumber (appendAnswer rec ws (stampStanding stamp (rec .next)) d n .outcome) ≡ lowest (appendStampRows rec ws stamp d n)
+  -- the distance of a full tick is the difference, and that of a stamp the difference modulo 2^32
+  pub append-distance : (rec : Record) (ws : List ℕ) (start : WideTick) (d n : ℕ) →
+      let o = appendAnswer rec ws (tickStanding start (rec .next)) d n .outcome in
+      outcomeDistance o ≡ distanceWith (outcomeNumber o) (start .0 - rec .next .0) (rec .next .0 - start .0)
+  pub stamp-distance : (rec : Record) (ws : List ℕ) (stamp : Stamp) (d n : ℕ) → stamp .0 < 2 ^ 32 →
+      let o = appendAnswer rec ws (stampStanding stamp (rec .next)) d n .outcome in
+      outcomeDistance o ≡ distanceWith (outcomeNumber o) (less32 (stamp .0) (rec .next .0)) (less32 (rec .next .0) (stamp .0))
   pub trim : (rec : Record) (ws : List ℕ) (c : WideMillis) → outcomeNumber (trimAnswer rec ws c .outcome) ≡ lowest (trimRows rec ws c)
   pub verdict : (rec : Record) (ws : List ℕ) (c : WideMillis) → verdictNumber (verdictAt rec ws c) ≡ lowest (verdictRows rec ws c)
   pub verdict-whole : (rec : Record) (ws : List ℕ) → verdictNumber (verdictWhole rec ws) ≡ lowest (wholeRows rec ws)

@@ -56,6 +56,10 @@ out-after-two = λ (_, (_, (_, (_, (out, _))))). now out
 abbrev pub record-and-table : {A B R : Type 0} → RefT A × (RefT B × R) → A × B
 record-and-table = λ (rec, (table, _)). (now rec, now table)
 
+-- C: record, table, start, duration, count, out
+abbrev pub appended : {A B P Q S C R : Type 0} → RefT A × (RefT B × (P × (Q × (S × (RefT C × R))))) → A × B × C
+appended = λ (rec, (table, (_, (_, (_, (out, _)))))). (now rec, now table, now out)
+
 -- C: bytes, record, table, out
 abbrev pub record-table-out : {P A B C R : Type 0} → P × (RefT A × (RefT B × (RefT C × R))) → A × B × C
 record-table-out = λ (_, (rec, (table, (out, _)))). (now rec, now table, now out)
@@ -146,8 +150,8 @@ pub record Entries : Type 0 where
   pub answer-whole : Lending report.answer_whole.Reads.Asked report.answer_whole.Reads.Learnt table-and-out
   -- flonterri, for C
   pub c-open : Lending c.flonterri_open.Reads.Asked c.flonterri_open.Reads.Learnt record-and-table
-  pub c-append : Lending c.flonterri_append.Reads.Asked c.flonterri_append.Reads.Learnt record-and-table
-  pub c-append-stamp : Lending c.flonterri_append_stamp.Reads.Asked c.flonterri_append_stamp.Reads.Learnt record-and-table
+  pub c-append : Lending c.flonterri_append.Reads.Asked c.flonterri_append.Reads.Learnt appended
+  pub c-append-stamp : Lending c.flonterri_append_stamp.Reads.Asked c.flonterri_append_stamp.Reads.Learnt appended
   pub c-trim : Lending c.flonterri_trim.Reads.Asked c.flonterri_trim.Reads.Learnt record-and-table
   pub c-verdict : Lending c.flonterri_verdict.Reads.Asked c.flonterri_verdict.Reads.Learnt out-after-one
   pub c-verdict-whole : Lending c.flonterri_verdict_whole.Reads.Asked c.flonterri_verdict_whole.Reads.Learnt out
@@ -160,6 +164,7 @@ pub record Entries : Type 0 where
   pub c-write : Lending c.flonterri_write.Reads.Asked c.flonterri_write.Reads.Learnt bytes-and-out
   -- keeping
   pub outcome-number : Entry keeping.Outcome.number.Reads.Asked keeping.Outcome.number.Reads.Learnt
+  pub outcome-distance : Entry keeping.Outcome.distance.Reads.Asked keeping.Outcome.distance.Reads.Learnt
   pub accepted : Entry keeping.accepted.Reads.Asked keeping.accepted.Reads.Learnt
   pub refused : Entry keeping.refused.Reads.Asked keeping.refused.Reads.Learnt
   -- agreement
@@ -168,6 +173,7 @@ pub record Entries : Type 0 where
   pub counts-held : Entry agreement.counts_held.Reads.Asked agreement.counts_held.Reads.Learnt
   pub is-passed : Entry agreement.is_passed.Reads.Asked agreement.is_passed.Reads.Learnt
   pub refusal-number : Entry agreement.refusal.Refusal.number.Reads.Asked agreement.refusal.Refusal.number.Reads.Learnt
+  pub refusal-distance : Entry agreement.refusal.Refusal.distance.Reads.Asked agreement.refusal.Refusal.distance.Reads.Learnt
   -- window
   pub head-held : Entry window.Head.held.Reads.Asked window.Head.held.Reads.Learnt
   pub head-new : Entry window.Head.new.Reads.Asked window.Head.new.Reads.Learnt

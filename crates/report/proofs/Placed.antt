@@ -1,10 +1,10 @@
 -- Texts put into an output one behind the other: a copy byte by byte puts a text, and a text put behind another puts both.
 use mathlib.Core.Path.{_≡_, refl, sym, ap, ap₂, _∙_}
-use mathlib.Core.List.{List, _++_, append-assoc}
+use mathlib.Core.List.{List, [], _++_, append-assoc, append-nil}
 use Prim.Native.Nat.{ℕ, _+_, _≤_, _<_}
 use native.Mathlib.Numerals.{add-one}
 use native.Mathlib.Omega.{arith}
-use lib.ListN.{length, getD, take, drop, set, length-append, length-set}
+use lib.ListN.{length, getD, take, drop, set, length-append, length-set, take-append-drop}
 use lib.Seq.{paste, paste-zero, paste-suc, length-paste-head, take-at, drop-at, take-all, drop-drop}
 use Rattle.report.specs.Placing.{Put}
 
@@ -45,6 +45,11 @@ module _ (out₀ : List ℕ) (at : ℕ) (text : List ℕ) where
           long = w .long;
           bytes = w .bytes ∙ ap (λ (s : List ℕ). take at out₀ ++ s ++ drop (at + i) out₀) (take-all i text l);
         }
+
+-- ---- no text
+
+pub put-none : (out : List ℕ) (at : ℕ) → at ≤ length out → Put out at [] out at
+put-none out at l = record { place = omega arith; room = l; long = refl; bytes = sym (take-append-drop at out) ∙ ap (λ f. f ++ drop at out) (sym (append-nil (take at out))) }
 
 -- ---- a text behind another
 

@@ -47,25 +47,25 @@ use Rattle.report.specs.declared.ClockLine.{ClockLine}
 use Rattle.report.specs.declared.ClockLine.the-variants.{At, Whole}
 use Rattle.report.specs.Clock.{askedOn}
 use Rattle.report.specs.Answer.{askedIn, replyOn, replyIn, tableLength, answer}
-use Rattle.report.specs.Text.{decimalBy, decimal, shareText, refusedText, verdictText, textOf}
+use Rattle.report.specs.Text.{decimalBy, decimal, distanceText, shareText, refusedText, verdictText, textOf}
 use Rattle.report.specs.Worked.{headLine, sLine, fileB, Lines}
 
 -- ---- what is refused
 
 empty : answer [] ≡ ascii "refused 16 line 0" ++ 10 ∷ []
-unfolding replyIn replyOn askedIn hasFeed textOf refusedText decimal decimalBy ascii
+unfolding replyIn replyOn askedIn hasFeed textOf refusedText distanceText decimal decimalBy ascii
 empty = refl
 
 alone : answer (ascii "0400000000000036b0" ++ 10 ∷ []) ≡ ascii "refused 16 line 1" ++ 10 ∷ []
-unfolding replyIn replyOn hasFeed firstLine behindFirst askedIn askedOn frameOf frameAs fieldValues areDigits numberOf valueOf isDigit between ascii textOf refusedText decimal decimalBy readAnswer readOutcome readLines takeLines linesFrom restFrom
+unfolding replyIn replyOn hasFeed firstLine behindFirst askedIn askedOn frameOf frameAs fieldValues areDigits numberOf valueOf isDigit between ascii textOf refusedText distanceText decimal decimalBy readAnswer readOutcome readLines takeLines linesFrom restFrom
 alone = refl
 
 over : answer (ascii "04000000174876e801" ++ 10 ∷ fileB) ≡ ascii "refused 10 line 0" ++ 10 ∷ []
-unfolding replyIn replyOn hasFeed firstLine behindFirst askedIn askedOn frameOf frameAs fieldValues areDigits numberOf valueOf isDigit between ascii textOf refusedText decimal decimalBy
+unfolding replyIn replyOn hasFeed firstLine behindFirst askedIn askedOn frameOf frameAs fieldValues areDigits numberOf valueOf isDigit between ascii textOf refusedText distanceText decimal decimalBy
 over = refl
 
 unended : answer (ascii "0400000000000036b0" ++ 10 ∷ headLine ++ 10 ∷ sLine) ≡ ascii "refused 16 line 2" ++ 10 ∷ []
-unfolding replyIn replyOn hasFeed firstLine behindFirst askedIn askedOn frameOf frameAs fieldValues areDigits numberOf valueOf isDigit between ascii textOf refusedText decimal decimalBy readAnswer readOutcome readLines takeLines linesFrom restFrom takeLine onNothing takeHead
+unfolding replyIn replyOn hasFeed firstLine behindFirst askedIn askedOn frameOf frameAs fieldValues areDigits numberOf valueOf isDigit between ascii textOf refusedText distanceText decimal decimalBy readAnswer readOutcome readLines takeLines linesFrom restFrom takeLine onNothing takeHead
 unended = refl
 
 -- ---- the file of case B, read into the program's table
@@ -148,7 +148,7 @@ of-period input file e = of-file input file Whole e ∙ ap verdictText wholeB
 -- ---- the lines
 
 pub lines : Lines
-unfolding hasFeed firstLine behindFirst askedIn askedOn frameOf frameAs fieldValues areDigits numberOf valueOf isDigit between ascii verdictText shareText refusedText decimal decimalBy
+unfolding hasFeed firstLine behindFirst askedIn askedOn frameOf frameAs fieldValues areDigits numberOf valueOf isDigit between ascii verdictText shareText refusedText distanceText decimal decimalBy
 lines =
     record {
       complete = at-clock (ascii "0400000000000036b0" ++ 10 ∷ fileB) refl (record { 0 = 14_000 }) refl (verdict.Complete 10_000) completeB;

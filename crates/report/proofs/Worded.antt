@@ -1,10 +1,14 @@
 -- The line of a reply is what its parts make, put one behind the other.
-use mathlib.Core.Path.{_≡_, sym, ap, subst, _∙_}
+use mathlib.Core.Path.{_≡_, sym, ap, ap₂, subst, _∙_}
+use mathlib.Core.Bool.{cond}
 use mathlib.Core.List.{List, [], _∷_, _++_, append-assoc}
-use Prim.Native.Nat.{ℕ}
+use Prim.Native.Nat.{ℕ, _+_, _≤_}
+use native.Mathlib.Omega.{arith}
+use borrow.Author.Tests.{eq-eqb, ne-eqb}
+use lib.ListN.{length}
 use Rattle.units.specs.declared.WideTick.{WideTick}
 use Rattle.agreement.specs.declared.refusal.Refusal.{Refusal}
-use Rattle.agreement.specs.Numbers.{refusalNumber}
+use Rattle.agreement.specs.Numbers.{refusalNumber, refusalDistance}
 use Rattle.answers.specs.declared.Verdict.{Verdict}
 use Rattle.answers.specs.declared.Verdict.the-variants as verdict
 use Rattle.answers.specs.declared.Percent.{Percent}
@@ -12,9 +16,9 @@ use Rattle.answers.specs.Shares.{percentOf, percentNumber}
 use Rattle.hex.specs.Ascii.{ascii}
 use Rattle.report.specs.declared.Reply.{Reply}
 use Rattle.report.specs.declared.Reply.the-variants.{Judged, Refused}
-use Rattle.report.specs.Text.{decimal, shareText, refusedText, verdictText, textOf}
+use Rattle.report.specs.Text.{decimal, distanceText, shareText, refusedText, verdictText, textOf}
 use Rattle.report.specs.Placing.{Put}
-use Rattle.report.proofs.Placed.{put-put}
+use Rattle.report.proofs.Placed.{put-none, put-put}
 
 -- a text put is any equal text put
 put-as : (out : List ℕ) (at : ℕ) (s t after : List ℕ) (n : ℕ) → s ≡ t → Put out at s after n → Put out at t after n
@@ -32,17 +36,33 @@ module _ (needed covered p : ℕ) (pc : Percent) (e : pc ≡ percentOf needed co
   share-put out text out₁ out₂ out₃ at a b c p₁ p₂ p₃ =
       put-as out at _ _ out₃ c (share-is text) (put-put out at _ out₂ b (put-put out at _ out₁ a p₁ _ out₂ b p₂) _ out₃ c p₃)
 
-module _ (why : Refusal) (number line : ℕ) (e : number ≡ refusalNumber why) where
-  refused-is : ((114 ∷ 101 ∷ 102 ∷ 117 ∷ 115 ∷ 101 ∷ 100 ∷ 32 ∷ decimal number) ++ 32 ∷ 108 ∷ 105 ∷ 110 ∷ 101 ∷ 32 ∷ decimal line) ++ 10 ∷ [] ≡ refusedText why line
+-- ---- a distance
+
+pub no-distance : (out : List ℕ) (at distance : ℕ) → at + 24 ≤ length out → distance ≡ 0 → Put out at (distanceText distance) out at
+unfolding distanceText
+no-distance out at distance l z =
+    put-as out at [] _ out at (sym (ap (λ t. cond t [] (ascii " by " ++ decimal distance)) (eq-eqb distance 0 z))) (put-none out at (omega arith))
+
+pub distance-put : (out after : List ℕ) (at distance n : ℕ) → (distance ≡ 0 → ⊥) → Put out at (32 ∷ 98 ∷ 121 ∷ 32 ∷ decimal distance) after n →
+    Put out at (distanceText distance) after n
+unfolding distanceText ascii
+distance-put out after at distance n z p =
+    put-as out at _ _ after n (sym (ap (λ t. cond t [] (ascii " by " ++ decimal distance)) (ne-eqb distance 0 z))) p
+
+module _ (why : Refusal) (number line distance : ℕ) (e : number ≡ refusalNumber why) (f : distance ≡ refusalDistance why) where
+  refused-is : (((114 ∷ 101 ∷ 102 ∷ 117 ∷ 115 ∷ 101 ∷ 100 ∷ 32 ∷ decimal number) ++ 32 ∷ 108 ∷ 105 ∷ 110 ∷ 101 ∷ 32 ∷ decimal line) ++ distanceText distance) ++ 10 ∷ [] ≡
+      refusedText why line
   unfolding refusedText ascii
   refused-is =
-      ap (λ (n : ℕ). ((114 ∷ 101 ∷ 102 ∷ 117 ∷ 115 ∷ 101 ∷ 100 ∷ 32 ∷ decimal n) ++ 32 ∷ 108 ∷ 105 ∷ 110 ∷ 101 ∷ 32 ∷ decimal line) ++ 10 ∷ []) e ∙
+      ap₂ (λ (n d : ℕ). (((114 ∷ 101 ∷ 102 ∷ 117 ∷ 115 ∷ 101 ∷ 100 ∷ 32 ∷ decimal n) ++ 32 ∷ 108 ∷ 105 ∷ 110 ∷ 101 ∷ 32 ∷ decimal line) ++ distanceText d) ++ 10 ∷ []) e f ∙
       simp append-assoc
 
-  pub refused-put : (out out₁ out₂ out₃ : List ℕ) (a b c : ℕ) → Put out 0 (114 ∷ 101 ∷ 102 ∷ 117 ∷ 115 ∷ 101 ∷ 100 ∷ 32 ∷ decimal number) out₁ a →
-      Put out₁ a (32 ∷ 108 ∷ 105 ∷ 110 ∷ 101 ∷ 32 ∷ decimal line) out₂ b → Put out₂ b (10 ∷ []) out₃ c → Put out 0 (refusedText why line) out₃ c
-  refused-put out out₁ out₂ out₃ a b c p₁ p₂ p₃ =
-      put-as out 0 _ _ out₃ c refused-is (put-put out 0 _ out₂ b (put-put out 0 _ out₁ a p₁ _ out₂ b p₂) _ out₃ c p₃)
+  pub refused-put : (out out₁ out₂ out₃ out₄ : List ℕ) (a b c d : ℕ) → Put out 0 (114 ∷ 101 ∷ 102 ∷ 117 ∷ 115 ∷ 101 ∷ 100 ∷ 32 ∷ decimal number) out₁ a →
+      Put out₁ a (32 ∷ 108 ∷ 105 ∷ 110 ∷ 101 ∷ 32 ∷ decimal line) out₂ b → Put out₂ b (distanceText distance) out₃ c → Put out₃ c (10 ∷ []) out₄ d →
+      Put out 0 (refusedText why line) out₄ d
+  refused-put out out₁ out₂ out₃ out₄ a b c d p₁ p₂ p₃ p₄ =
+      put-as out 0 _ _ out₄ d refused-is
+      (put-put out 0 _ out₃ c (put-put out 0 _ out₂ b (put-put out 0 _ out₁ a p₁ _ out₂ b p₂) _ out₃ c p₃) _ out₄ d p₄)
 
 pub lacking-is : (needed covered : ℕ) (lowest : WideTick) (out out₁ after : List ℕ) (a n : ℕ) →
     Put out 0 (108 ∷ 97 ∷ 99 ∷ 107 ∷ 105 ∷ 110 ∷ 103 ∷ 32 ∷ decimal (lowest .0)) out₁ a → Put out₁ a (32 ∷ shareText needed covered) after n →

@@ -1,16 +1,16 @@
 -- The answer is one line of text with its line feed: `nothing needed`, `complete 10000/10000 100%`, `lacking 20000 9999/10000 99%` or
--- `refused 16 line 2`, numbers in decimal. A share is covered, needed and the percent, rounded down; what lacks is the lowest tick that is not
+-- `refused 16 line 2`, or `refused 4 line 3 by 9` of a gap or an overlap, numbers in decimal. A share is covered, needed and the percent, rounded down; what lacks is the lowest tick that is not
 -- covered; a refusal has its number and its line, and line 0 where it is the verdict's. Paper: The file (the program writes one line).
 use Prim.Native.Nat.{ℕ, zero, suc, _+_, _-_, _*_, _/_, _%_}
 use mathlib.Core.Path.{_≡_}
 use mathlib.Core.Bool.{Bool, false, cond, _&&_}
 use mathlib.Core.List.{List, [], _∷_, _++_}
-use lib.Dec.{leb, ltb}
+use lib.Dec.{eqb, leb, ltb}
 use Rattle.io.specs.Digits.{digits, Fewest}
 use Rattle.units.specs.declared.WideMillis.{WideMillis}
 use Rattle.agreement.specs.declared.Record.{Record}
 use Rattle.agreement.specs.declared.refusal.Refusal.{Refusal}
-use Rattle.agreement.specs.Numbers.{refusalNumber}
+use Rattle.agreement.specs.Numbers.{refusalNumber, refusalDistance}
 use Rattle.answers.specs.declared.Verdict.{Verdict}
 use Rattle.answers.specs.declared.Verdict.the-variants as verdict
 use Rattle.answers.specs.Judgement.{verdictAt, verdictWhole}
@@ -45,8 +45,13 @@ shareText needed covered =
     lineFeed ∷
     []
 
+-- the distance of a gap or an overlap; no other refusal has one, and none of these is 0
+unfoldable pub distanceText : ℕ → List ℕ
+distanceText distance = cond (eqb distance 0) [] (ascii " by " ++ decimal distance)
+
 unfoldable pub refusedText : Refusal → ℕ → List ℕ
-refusedText why line = ascii "refused " ++ decimal (refusalNumber why) ++ ascii " line " ++ decimal line ++ lineFeed ∷ []
+refusedText why line =
+    ascii "refused " ++ decimal (refusalNumber why) ++ ascii " line " ++ decimal line ++ distanceText (refusalDistance why) ++ lineFeed ∷ []
 
 unfoldable pub verdictText : Verdict → List ℕ
 verdictText verdict.Nothing = ascii "nothing needed" ++ lineFeed ∷ []

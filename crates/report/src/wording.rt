@@ -3,7 +3,7 @@ ghost use mathlib.Core.List.{_∷_, _++_};
 ghost use Prim.Native.Nat.{_+_, _≤_};
 ghost use lib.ListN.{length};
 ghost use Rattle.answers.specs.declared.Verdict.the-variants.{Lacking};
-ghost use Rattle.report.specs.Text.{decimal, shareText, refusedText, verdictText, textOf};
+ghost use Rattle.report.specs.Text.{decimal, distanceText, shareText, refusedText, verdictText, textOf};
 ghost use Rattle.report.specs.Placing.{Put};
 use crate::Reply;
 use agreement::Refusal;
@@ -56,6 +56,18 @@ fn put_share(out: &mut [u8], at: usize, text: &[u8], needed: u64, covered: u64) 
     put(out, sign, b"%\n")
 }
 
+// Inner, since there must be room: the distance of a gap or an overlap, nothing where there is none.
+fn put_distance(out: &mut [u8], at: usize, distance: u64) -> usize
+    requires { ⌜ at + 24 ≤ length (now out) ⌝ }
+    ensures { λ r. ⌜ Put (now (out .entry)) at (distanceText distance) (now (out .exit)) r ⌝ }
+    ensures { λ r. ⌜ r ≤ at + 24 ⌝ }
+{
+    if distance == 0 {
+        return at;
+    }
+    put_number(out, at, b" by ", distance)
+}
+
 // Inner, since there must be room.
 fn put_refused(out: &mut [u8], why: Refusal, line: u64) -> usize
     requires { ⌜ 93 ≤ length (now out) ⌝ }
@@ -63,7 +75,8 @@ fn put_refused(out: &mut [u8], why: Refusal, line: u64) -> usize
 {
     let number = why.number() as u64;
     let between = put_number(out, 0, b"refused ", number);
-    let end = put_number(out, between, b" line ", line);
+    let behind = put_number(out, between, b" line ", line);
+    let end = put_distance(out, behind, why.distance());
     put(out, end, b"\n")
 }
 

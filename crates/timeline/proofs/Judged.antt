@@ -10,6 +10,7 @@ use mir.Syntax.{w32}
 use mir.Val.{Fits}
 use Rattle.units.specs.declared.standing.Standing.{Standing}
 use Rattle.units.specs.declared.standing.Standing.the-variants.{Joins, Gap, Overlap}
+use Rattle.units.specs.declared.Distance.{Distance}
 use Rattle.units.specs.declared.Span.{Span}
 use Rattle.units.specs.declared.SpanMade.{SpanMade}
 use Rattle.units.specs.declared.SpanMade.the-variants as span
@@ -24,6 +25,7 @@ use Rattle.keeping.specs.declared.Outcome.the-variants.{Refused}
 use Rattle.keeping.specs.declared.Changed.{Changed}
 use Rattle.keeping.specs.Keeping.{wordsKeeping, changedBy, wordsBy}
 use Rattle.keeping.specs.Append.{unspentOf, fitOutcome, appended}
+use Rattle.keeping.proofs.Outcomes.{words-refused}
 use Rattle.timeline.specs.Appending.{unjoined_else_, appendOutcome, appendAnswer, appendTable}
 
 module _ (rec : Record) (ws : List ℕ) (st : Standing) (d n : ℕ) where
@@ -49,11 +51,11 @@ module _ (rec : Record) (ws : List ℕ) (st : Standing) (d n : ℕ) where
         stands : appendOutcome rec ws st d n ≡ (unjoined st else fitOutcome rec ws d n)
         stands = given false false (ne-eqb d 0 i) (ne-eqb n 0 j)
 
-        pub stands-gap : st ≡ Gap → appendOutcome rec ws st d n ≡ Refused refusal.Gap
-        stands-gap e = stands ∙ ap (λ s. unjoined s else fitOutcome rec ws d n) e
+        pub stands-gap : (far : Distance) → st ≡ Gap far → appendOutcome rec ws st d n ≡ Refused (refusal.Gap far)
+        stands-gap far e = stands ∙ ap (λ s. unjoined s else fitOutcome rec ws d n) e
 
-        pub stands-overlap : st ≡ Overlap → appendOutcome rec ws st d n ≡ Refused refusal.Overlap
-        stands-overlap e = stands ∙ ap (λ s. unjoined s else fitOutcome rec ws d n) e
+        pub stands-overlap : (far : Distance) → st ≡ Overlap far → appendOutcome rec ws st d n ≡ Refused (refusal.Overlap far)
+        stands-overlap far e = stands ∙ ap (λ s. unjoined s else fitOutcome rec ws d n) e
 
         pub stands-joins : st ≡ Joins → appendOutcome rec ws st d n ≡ fitOutcome rec ws d n
         stands-joins e = stands ∙ ap (λ s. unjoined s else fitOutcome rec ws d n) e
@@ -77,11 +79,18 @@ module _ (rec : Record) (ws : List ℕ) (st : Standing) (d n : ℕ) (a : agrees 
     span-none z = no-count rec ws st d n a lasts z
 
     module _ (j : n ≡ 0 → ⊥) where
-      pub span-gap : st ≡ Gap → appendOutcome rec ws st d n ≡ Refused refusal.Gap
-      span-gap g = stands-gap rec ws st d n a lasts j g
+      pub span-gap : (far : Distance) → st ≡ Gap far → appendOutcome rec ws st d n ≡ Refused (refusal.Gap far)
+      span-gap far g = stands-gap rec ws st d n a lasts j far g
 
-      pub span-overlap : st ≡ Overlap → appendOutcome rec ws st d n ≡ Refused refusal.Overlap
-      span-overlap g = stands-overlap rec ws st d n a lasts j g
+      pub span-overlap : (far : Distance) → st ≡ Overlap far → appendOutcome rec ws st d n ≡ Refused (refusal.Overlap far)
+      span-overlap far g = stands-overlap rec ws st d n a lasts j far g
+
+      -- a start that does not join changes no word
+      pub gap-words : (far : Distance) → st ≡ Gap far → ws ≡ appendTable rec ws st d n
+      gap-words far g = words-refused _ _ _ (refusal.Gap far) (span-gap far g)
+
+      pub overlap-words : (far : Distance) → st ≡ Overlap far → ws ≡ appendTable rec ws st d n
+      overlap-words far g = words-refused _ _ _ (refusal.Overlap far) (span-overlap far g)
 
       module _ (g : st ≡ Joins) where
         joins : fitOutcome rec ws d n ≡ appendOutcome rec ws st d n

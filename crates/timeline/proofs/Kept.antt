@@ -115,8 +115,8 @@ module _ (rec : Record) (ws : List ℕ) (c : WideMillis) (a : agrees rec ws ≡ 
 
 past-standing : (st : Standing) (x : Outcome) → (unjoined st else x) ≡ Accepted → (st ≡ Joins) × (x ≡ Accepted)
 past-standing Joins x e = (refl, e)
-past-standing Gap x e = absurd (refused-not refusal.Gap e)
-past-standing Overlap x e = absurd (refused-not refusal.Overlap e)
+past-standing (Gap d) x e = absurd (refused-not (refusal.Gap d) e)
+past-standing (Overlap d) x e = absurd (refused-not (refusal.Overlap d) e)
 
 pub or-none : (a b : Bool) → (a || b) ≡ false → (a ≡ false) × (b ≡ false)
 or-none true b e = absurd (true≢false e)

@@ -18,10 +18,10 @@ use Rattle.keeping.specs.Keeping.{wordsKeeping, changedBy, wordsBy}
 use Rattle.keeping.specs.Append.{unspentOf, fitOutcome, appended}
 
 infixr 1 unjoined_else_
--- 4 or 5 where the start does not join, else what comes
+-- 4 or 5, with the distance, where the start does not join, else what comes
 abbrev pub unjoined_else_ : Standing → Outcome → Outcome
-unjoined Gap else next = Refused refusal.Gap
-unjoined Overlap else next = Refused refusal.Overlap
+unjoined (Gap d) else next = Refused (refusal.Gap d)
+unjoined (Overlap d) else next = Refused (refusal.Overlap d)
 unjoined Joins else next = next
 
 -- 2, 3, 4 or 5, then 6 to 9

@@ -35,8 +35,8 @@ fn append_standing(
     }
     match standing {
         Standing::Joins => append_joined(rec, table, span, count as u64),
-        Standing::Gap => refused(Refusal::Gap, rec),
-        Standing::Overlap => refused(Refusal::Overlap, rec),
+        Standing::Gap(distance) => refused(Refusal::Gap(distance), rec),
+        Standing::Overlap(distance) => refused(Refusal::Overlap(distance), rec),
     }
 }
 

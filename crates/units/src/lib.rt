@@ -35,6 +35,9 @@ pub struct Timescale(pub u64);
 // A reference's duration in ticks.
 pub struct Span(pub u64);
 
+// How many ticks lie between a start and the next tick.
+pub struct Distance(pub u64);
+
 // The number of a reference.
 pub struct Number(pub u64);
 

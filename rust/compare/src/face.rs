@@ -8,9 +8,9 @@ use crate::opening::Opening;
 /// A call that opens.
 pub type Open = fn(&mut [u64], &mut [u64], &Opening) -> u32;
 /// An append by full tick.
-pub type Append = fn(&mut [u64], &mut [u64], u64, u32, u32) -> u32;
+pub type Append = fn(&mut [u64], &mut [u64], u64, u32, u32, &mut [u64]) -> u32;
 /// An append by stamp.
-pub type AppendStamp = fn(&mut [u64], &mut [u64], u32, u32, u32) -> u32;
+pub type AppendStamp = fn(&mut [u64], &mut [u64], u32, u32, u32, &mut [u64]) -> u32;
 /// A trim.
 pub type Trim = fn(&mut [u64], &mut [u64], u64) -> u32;
 /// A verdict at a clock.

@@ -5,6 +5,8 @@
 //! - 2 for disagreement in opening and reading, which judge no record: their 2 is a record of
 //!   another length;
 //! - 15 in calls that have neither an `out` nor an output;
+//! - a distance of 0, one of another number than 4 and 5, one of a stamp over half the circle, and 2^63
+//!   or more before the next tick, which is below 2^52;
 //! - nothing needed in the whole period: a known period lasts a millisecond at least, and so
 //!   needs a tick;
 //! - in a file, 2, 10 to 15 and 19, which belong to other calls; 4 and 5 on the first S line; 18
@@ -18,18 +20,18 @@ use crate::limits;
 use crate::lines::{head_of, lines, refused_line, HEADS, REFUSED_LINES};
 use crate::sequence::Made;
 use crate::state::State;
-use crate::step::{Call, Damage, Place, Step};
+use crate::step::{Call, Damage, Place, Step, OUT_CAME};
 use crate::tally::Tally;
 use crate::text::{clock_line, s_fields, ALL_ONES};
+
+/// The numbers that both appends can answer.
+const APPENDS: &[&str] = &["0", "2", "3", "4", "5", "6", "7", "8", "9", "15"];
 
 /// The numbers that each call can answer.
 const NUMBERS: [(&str, &[&str]); 13] = [
     ("open", &["0", "1", "2"]),
-    ("append", &["0", "2", "3", "4", "5", "6", "7", "8", "9"]),
-    (
-        "append_stamp",
-        &["0", "2", "3", "4", "5", "6", "7", "8", "9"],
-    ),
+    ("append", APPENDS),
+    ("append_stamp", APPENDS),
     ("trim", &["0", "2", "10"]),
     ("verdict", &["0", "2", "10", "11", "15"]),
     ("verdict_whole", &["0", "2", "15", "19"]),
@@ -56,6 +58,17 @@ const TAKEN: &[&str] = &[
     "into the last run",
 ];
 
+/// How far a full tick can be off.
+const TICKS_OFF: &[&str] = &[
+    "4 by 1",
+    "4 by 2 or more",
+    "4 by 2^32 or more",
+    "4 by 2^63 or more",
+    "5 by 1",
+    "5 by 2 or more",
+    "5 by 2^32 or more",
+];
+
 /// Where the window of a verdict can end and begin.
 const WINDOWS: &[&str] = &[
     "ends at the clock",
@@ -67,7 +80,7 @@ const WINDOWS: &[&str] = &[
 ];
 
 /// The ways in which calls can go besides their numbers.
-const WAYS: [(&str, &[&str]); 20] = [
+const WAYS: [(&str, &[&str]); 24] = [
     ("lengths", &["another record", "another out"]),
     ("damaged words", &["agree", "disagree"]),
     ("damaged update", &["agree", "disagree"]),
@@ -75,6 +88,22 @@ const WAYS: [(&str, &[&str]); 20] = [
         "open update",
         &["0", "1 or more", "the limit", "over the limit", "all ones"],
     ),
+    ("append out", &["a distance", "as it came"]),
+    ("append off by", TICKS_OFF),
+    (
+        "append_stamp off by",
+        &[
+            "4 by 1",
+            "4 by 2 or more",
+            "4 by 2^31 - 1",
+            "5 by 1",
+            "5 by 2 or more",
+            "5 by 2^31 - 1",
+            "5 by 2^31",
+            "5 before tick 0",
+        ],
+    ),
+    ("read off by", TICKS_OFF),
     ("append taken", TAKEN),
     ("append_stamp taken", TAKEN),
     (
@@ -152,6 +181,7 @@ pub fn announce_inputs(tally: &mut Tally) {
     let line_0 = &["10", "16", "16 head 01", "16 head 05", "19"];
     tally.announce("desk refused, line 0", line_0);
     tally.announce("desk refused", &REFUSED_LINES);
+    tally.announce("desk off by", TICKS_OFF);
 }
 
 /// Counts what a call has met.
@@ -163,11 +193,69 @@ pub fn meet_call(tally: &mut Tally, made: &Made) {
     meet_asked(tally, step);
     if number == 0 {
         meet_accepted(tally, made);
-    } else if let (Call::Read { bytes }, false) =
-        (&step.call, step.has_other_record() || step.has_other_out())
-    {
-        let kind = refused_line(bytes, made.answer.out[0], number);
-        tally.meet("read refused", &kind);
+    }
+    if !step.has_other_record() && !step.has_other_out() {
+        meet_told(tally, made);
+    }
+}
+
+/// Counts what an append and a reading tell where they are refused.
+fn meet_told(tally: &mut Tally, made: &Made) {
+    let (number, out) = (made.answer.number, &made.answer.out);
+    match &made.step.call {
+        Call::Append { .. } | Call::AppendStamp { .. } => meet_out(tally, made, out[0]),
+        Call::Read { bytes } if number != 0 => {
+            tally.meet("read refused", &refused_line(bytes, out[0], number));
+            if out[1] != 0 || tells_distance(number) {
+                tally.meet("read off by", &ticks_off(number, out[1]));
+            }
+        }
+        _ => {}
+    }
+}
+
+/// Counts what stands in the `out` of an append: a distance, or what stood there before.
+fn meet_out(tally: &mut Tally, made: &Made, word: u64) {
+    let number = made.answer.number;
+    if !tells_distance(number) {
+        let came = word == OUT_CAME;
+        tally.meet("append out", if came { "as it came" } else { "changed" });
+        return;
+    }
+    tally.meet("append out", "a distance");
+    if let Call::Append { .. } = made.step.call {
+        tally.meet("append off by", &ticks_off(number, word));
+        return;
+    }
+    tally.meet("append_stamp off by", &stamp_off(number, word));
+    if number == 5 && word > made.answer.record[word::NEXT_TICK] {
+        tally.meet("append_stamp off by", "5 before tick 0");
+    }
+}
+
+/// True for a gap and an overlap.
+fn tells_distance(number: u32) -> bool {
+    number == 4 || number == 5
+}
+
+/// How far a full tick is off.
+fn ticks_off(number: u32, by: u64) -> String {
+    let size = match by {
+        0 | 1 => return format!("{} by {}", number, by),
+        2..=0xffff_ffff => "2",
+        0x1_0000_0000..=0x7fff_ffff_ffff_ffff => "2^32",
+        _ => "2^63",
+    };
+    format!("{} by {} or more", number, size)
+}
+
+/// How far a stamp is off, of the circle of 2^32 ticks.
+fn stamp_off(number: u32, by: u64) -> String {
+    match by {
+        0x7fff_ffff => format!("{} by 2^31 - 1", number),
+        0x8000_0000 => format!("{} by 2^31", number),
+        _ if by > 1 << 31 => format!("{} by more than half the circle", number),
+        _ => ticks_off(number, by),
     }
 }
 
@@ -403,15 +491,28 @@ pub fn meet_input(tally: &mut Tally, input: &[u8], answer: &str) {
         ["refused", number, "line", "0"] => {
             tally.meet("desk refused, line 0", &at_line_0(input, number));
         }
-        ["refused", number, "line", line] => {
-            let kind = match (number.parse(), line.parse()) {
-                (Ok(number), Ok(line)) => refused_line(file, line, number),
+        ["refused", number, "line", line] if !["4", "5"].contains(&number) => {
+            meet_refused(tally, file, number, line);
+        }
+        ["refused", number, "line", line, "by", by] => {
+            meet_refused(tally, file, number, line);
+            let off = match (number.parse(), by.parse()) {
+                (Ok(number), Ok(by)) => ticks_off(number, by),
                 _ => answer.to_string(),
             };
-            tally.meet("desk refused", &kind);
+            tally.meet("desk off by", &off);
         }
         _ => tally.meet("desk refused", answer),
     }
+}
+
+/// Counts a refused line of the file by the words that the program has for it.
+fn meet_refused(tally: &mut Tally, file: &[u8], number: &str, line: &str) {
+    let kind = match (number.parse(), line.parse()) {
+        (Ok(number), Ok(line)) => refused_line(file, line, number),
+        _ => format!("refused {} line {}", number, line),
+    };
+    tally.meet("desk refused", &kind);
 }
 
 /// Counts the line of a verdict, and the head of the file that it judges.

@@ -5,6 +5,9 @@ use flonterri::words::{self, RECORD_WORDS};
 use crate::face::Face;
 use crate::opening::Opening;
 
+/// What stands in each word of an `out` before a call.
+pub const OUT_CAME: u64 = 5555;
+
 /// A call and its arguments.
 #[derive(Clone, Debug, PartialEq, Eq)]
 #[allow(missing_docs)]
@@ -79,9 +82,10 @@ impl Call {
             Call::CoveredEdge => words::EDGE_WORDS,
             Call::FullTick { .. } => words::FULL_TICK_WORDS,
             Call::Touching { .. } => words::TOUCHING_WORDS,
+            Call::Append { .. } | Call::AppendStamp { .. } => words::DISTANCE_WORDS,
             Call::Read { .. } => words::READ_WORDS,
             Call::Write { .. } => words::WRITE_WORDS,
-            Call::Open(_) | Call::Append { .. } | Call::AppendStamp { .. } | Call::Trim { .. } => 0,
+            Call::Open(_) | Call::Trim { .. } => 0,
         }
     }
 }
@@ -182,7 +186,7 @@ impl Step {
             number: 0,
             record: lent.record,
             table: lent.table,
-            out: vec![5555; self.out_words],
+            out: vec![OUT_CAME; self.out_words],
             bytes: match self.call {
                 Call::Write { room } => vec![b'#'; room],
                 _ => Vec::new(),
@@ -230,12 +234,12 @@ impl Answer {
                 start,
                 duration,
                 count,
-            } => (face.append)(record, table, *start, *duration, *count),
+            } => (face.append)(record, table, *start, *duration, *count, out),
             Call::AppendStamp {
                 stamp,
                 duration,
                 count,
-            } => (face.append_stamp)(record, table, *stamp, *duration, *count),
+            } => (face.append_stamp)(record, table, *stamp, *duration, *count, out),
             Call::Trim { clock } => (face.trim)(record, table, *clock),
             Call::Verdict { clock } => (face.verdict)(record, table, *clock, out),
             Call::VerdictWhole => (face.verdict_whole)(record, table, out),

@@ -28,15 +28,16 @@
 //! ```
 //!
 //! A gap, an overlap or anything else that is wrong is refused, and a refused call changes
-//! nothing:
+//! nothing. A gap and an overlap tell how many ticks the start is off:
 //!
 //! ```
-//! # use flonterri::{Head, Refusal, Span, Tick, Timeline, Timescale};
+//! # use flonterri::{Distance, Head, Refusal, Span, Tick, Timeline, Timescale};
 //! # fn main() -> Result<(), flonterri::OpenError> {
 //! let mut timeline = Timeline::open(Head::new(Timescale(1000)), Tick(0), 100)?;
 //! timeline.append(Tick(0), Span(4000), 5)?;
 //! let before = timeline.clone();
-//! assert_eq!(timeline.append(Tick(24_000), Span(4000), 1), Err(Refusal::Gap));
+//! let refused = timeline.append(Tick(24_000), Span(4000), 1);
+//! assert_eq!(refused, Err(Refusal::Gap(Distance(4000))));
 //! assert_eq!(timeline, before);
 //! # Ok(())
 //! # }
@@ -63,4 +64,4 @@ pub mod words;
 pub use answers::{Availability, Reference, References, Run, Runs, Verdict};
 pub use refusal::{OpenError, ReadError, Refusal, RefusedFile};
 pub use timeline::{Head, Timeline};
-pub use units::{Grain, Millis, Number, Span, Stamp, Tick, Timescale};
+pub use units::{Distance, Grain, Millis, Number, Span, Stamp, Tick, Timescale};

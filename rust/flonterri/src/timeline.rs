@@ -6,7 +6,7 @@ use crate::answers::{Availability, References, Runs, Verdict};
 use crate::refusal::{OpenError, ReadError, Refusal, RefusedFile};
 use crate::units::{narrow, Millis, Number, Span, Stamp, Tick, Timescale};
 use crate::words::{self, edge_kind, edge_word, full_tick_kind, full_tick_word};
-use crate::words::{touching_word, word, RECORD_WORDS, RUN_WORDS};
+use crate::words::{read_word, touching_word, word, RECORD_WORDS, RUN_WORDS};
 
 /// Bytes of a written head line and end line, with their line feeds.
 const HEAD_AND_END_BYTES: usize = 99 + 11;
@@ -168,40 +168,39 @@ impl Timeline {
     ///
     /// Those that no window can need any more are counted and not kept. Refusals
     /// [`NothingGiven`](Refusal::NothingGiven), [`Gap`](Refusal::Gap) or
-    /// [`Overlap`](Refusal::Overlap), [`TickLimit`](Refusal::TickLimit),
-    /// [`CountLimit`](Refusal::CountLimit), [`PastEnd`](Refusal::PastEnd),
-    /// [`NoRunLeft`](Refusal::NoRunLeft).
+    /// [`Overlap`](Refusal::Overlap), which tell how far the start lies from the next tick,
+    /// [`TickLimit`](Refusal::TickLimit), [`CountLimit`](Refusal::CountLimit),
+    /// [`PastEnd`](Refusal::PastEnd), [`NoRunLeft`](Refusal::NoRunLeft).
     ///
     /// ```
-    /// # use flonterri::{Head, Refusal, Span, Tick, Timeline, Timescale};
+    /// # use flonterri::{Distance, Head, Refusal, Span, Tick, Timeline, Timescale};
     /// # fn main() -> Result<(), flonterri::OpenError> {
     /// let mut timeline = Timeline::open(Head::new(Timescale(10)), Tick(111), 10)?;
     /// timeline.append(Tick(111), Span(40), 1)?;
     /// timeline.append(Tick(151), Span(10), 1)?;
     /// assert_eq!(timeline.next_tick(), Tick(161));
-    /// assert_eq!(timeline.append(Tick(170), Span(10), 1), Err(Refusal::Gap));
+    /// let refused = timeline.append(Tick(170), Span(10), 1);
+    /// assert_eq!(refused, Err(Refusal::Gap(Distance(9))));
     /// # Ok(())
     /// # }
     /// ```
     pub fn append(&mut self, start: Tick, duration: Span, count: u32) -> Result<(), Refusal> {
-        Refusal::judge(words::append(
-            &mut self.record,
-            &mut self.table,
-            start.0,
-            duration.0,
-            count,
-        ))
+        self.judge_append(|record, table, out| {
+            words::append(record, table, start.0, duration.0, count, out)
+        })
     }
 
     /// Appends as [`append`](Timeline::append) does, with the low 32 bits of the start alone. A
-    /// stamp cannot show a jump of a whole 2^32 ticks.
+    /// stamp cannot show a jump of a whole 2^32 ticks: the distance of a gap is 2^31 - 1 at most, that
+    /// of an overlap 2^31.
     ///
     /// ```
-    /// # use flonterri::{Head, Refusal, Span, Stamp, Tick, Timeline, Timescale};
+    /// # use flonterri::{Distance, Head, Refusal, Span, Stamp, Tick, Timeline, Timescale};
     /// # fn main() -> Result<(), flonterri::OpenError> {
     /// let past_32_bits = Tick(4_294_970_000);
     /// let mut timeline = Timeline::open(Head::new(Timescale(1000)), past_32_bits, 10)?;
-    /// assert_eq!(timeline.append_stamp(Stamp(2703), Span(1), 1), Err(Refusal::Overlap));
+    /// let refused = timeline.append_stamp(Stamp(2703), Span(1), 1);
+    /// assert_eq!(refused, Err(Refusal::Overlap(Distance(1))));
     /// timeline.append_stamp(Stamp(2704), Span(1), 1)?;
     /// assert_eq!(timeline.next_tick(), Tick(4_294_970_001));
     /// # Ok(())
@@ -213,13 +212,20 @@ impl Timeline {
         duration: Span,
         count: u32,
     ) -> Result<(), Refusal> {
-        Refusal::judge(words::append_stamp(
-            &mut self.record,
-            &mut self.table,
-            stamp.0,
-            duration.0,
-            count,
-        ))
+        self.judge_append(|record, table, out| {
+            words::append_stamp(record, table, stamp.0, duration.0, count, out)
+        })
+    }
+
+    /// Makes an append over record, table and the word that tells its distance.
+    fn judge_append(
+        &mut self,
+        append: impl FnOnce(&mut [u64], &mut [u64], &mut [u64]) -> u32,
+    ) -> Result<(), Refusal> {
+        let mut out = [0; words::DISTANCE_WORDS];
+        let number = append(&mut self.record, &mut self.table, &mut out);
+        let [distance] = out;
+        Refusal::judge_start(number, distance)
     }
 
     /// Raises the greatest clock to this one, if it is later, and drops every reference that is
@@ -404,7 +410,7 @@ impl Timeline {
     /// it to the old clock.
     ///
     /// ```
-    /// # use flonterri::{Head, Millis, Number, Refusal, Span, Stamp, Tick, Timeline, Timescale};
+    /// # use flonterri::{Distance, Head, Millis, Number, Refusal, Span, Stamp, Tick, Timeline, Timescale};
     /// # fn main() -> Result<(), flonterri::OpenError> {
     /// let head = Head { depth: Millis(10_000), ..Head::new(Timescale(90_000)) };
     /// let mut timeline = Timeline::open(head, Tick(4_294_800_000), 10)?;
@@ -414,7 +420,7 @@ impl Timeline {
     /// // The counter has gone round, and a segment of two seconds is missing.
     /// let stamp = Stamp(192_704);
     /// let refused = timeline.append_stamp(stamp, Span(180_000), 1);
-    /// assert_eq!(refused, Err(Refusal::Gap));
+    /// assert_eq!(refused, Err(Refusal::Gap(Distance(180_000))));
     ///
     /// let start = timeline.full_tick(stamp).expect("a tick within its limit");
     /// assert_eq!(start, Tick(4_295_160_000));
@@ -495,8 +501,9 @@ impl Timeline {
         let mut table = table_of(runs)?;
         let mut out = [0; words::READ_WORDS];
         let number = words::read(file, &mut record, &mut table, &mut out);
-        let [line] = out;
-        Refusal::judge(number).map_err(|refusal| RefusedFile { refusal, line })?;
+        let line = out[read_word::LINE];
+        Refusal::judge_start(number, out[read_word::DISTANCE])
+            .map_err(|refusal| RefusedFile { refusal, line })?;
         Ok(Timeline { record, table })
     }
 

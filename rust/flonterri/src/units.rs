@@ -26,6 +26,11 @@ impl Tick {
 #[derive(Clone, Copy, Debug, Default, PartialEq, Eq, PartialOrd, Ord, Hash)]
 pub struct Stamp(pub u32);
 
+/// How many ticks a start that does not join lies from the next tick, after it or before it: 1 or
+/// more.
+#[derive(Clone, Copy, Debug, PartialEq, Eq, PartialOrd, Ord, Hash)]
+pub struct Distance(pub u64);
+
 /// How many ticks a reference lasts: 1 or more.
 #[derive(Clone, Copy, Debug, PartialEq, Eq, PartialOrd, Ord, Hash)]
 pub struct Span(pub u32);
@@ -67,4 +72,4 @@ macro_rules! shown_as_its_number {
     };
 }
 
-shown_as_its_number!(Timescale Tick Stamp Span Millis Number Grain);
+shown_as_its_number!(Timescale Tick Stamp Distance Span Millis Number Grain);

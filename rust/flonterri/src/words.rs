@@ -37,8 +37,11 @@ pub const EDGE_WORDS: usize = 2;
 /// Words of the `out` of [`full_tick`].
 pub const FULL_TICK_WORDS: usize = 2;
 
-/// Words of the `out` of [`read`]: the refused line.
-pub const READ_WORDS: usize = 1;
+/// Words of the `out` of [`append`] and [`append_stamp`]: the distance.
+pub const DISTANCE_WORDS: usize = 1;
+
+/// Words of the `out` of [`read`].
+pub const READ_WORDS: usize = 2;
 
 /// Words of the `out` of [`write()`]: the length.
 pub const WRITE_WORDS: usize = 1;
@@ -163,6 +166,14 @@ pub mod full_tick_kind {
     pub const AT: u64 = 1;
 }
 
+/// Where each word stands that tells of a reading. Both are 0 where the file is accepted.
+pub mod read_word {
+    /// The refused line, counted from 1.
+    pub const LINE: usize = 0;
+    /// How far its start lies from the next tick; 0 where the answer is not 4 or 5.
+    pub const DISTANCE: usize = 1;
+}
+
 /// True where record and table agree, so that they are a timeline; false also where the record is
 /// not of 12 words.
 ///
@@ -250,18 +261,23 @@ calls! {
         first_tick: u64,
     );
 
-    /// Appends by full tick.
+    /// Appends by full tick. `out` is 1 word, the distance: how many ticks the start lies after the next
+    /// tick where the answer is 4, or before it where it is 5, never 0. Any other answer leaves `out` as
+    /// it came.
     ///
-    /// Refusals 2, 3, 4 or 5, 6, 7, 8, 9, in this order; each leaves record and table as they came.
+    /// Refusals 2, 3, 4 or 5, 6, 7, 8, 9, in this order, and 15 for the length of `out`; each leaves
+    /// record and table as they came.
     ///
     /// ```
     /// use flonterri::words::{self, RECORD_WORDS};
     ///
     /// let (mut record, mut table) = ([0; RECORD_WORDS], [0; 30]);
     /// assert_eq!(words::open(&mut record, &mut table, 1000, 0, 0, 0, 10_000, 1, 0, 0), 0);
-    /// assert_eq!(words::append(&mut record, &mut table, 0, 4000, 5), 0);
-    /// assert_eq!(table[..3], [0, 4000, 5]);
-    /// assert_eq!(words::append(&mut record, &mut table, 24_000, 4000, 1), 4);
+    /// let mut out = [0; words::DISTANCE_WORDS];
+    /// assert_eq!(words::append(&mut record, &mut table, 0, 4000, 5, &mut out), 0);
+    /// assert_eq!((table[..3].to_vec(), out), (vec![0, 4000, 5], [0]));
+    /// assert_eq!(words::append(&mut record, &mut table, 24_000, 4000, 1, &mut out), 4);
+    /// assert_eq!(out, [4000]);
     /// ```
     fn append = flonterri_append(
         record: &mut [u64],
@@ -269,11 +285,14 @@ calls! {
         start: u64,
         duration: u32,
         count: u32,
+        out: &mut [u64],
     );
 
-    /// Appends by stamp.
+    /// Appends by stamp, `out` as for [`append`]. The distance goes round the circle of 2^32 ticks: a gap
+    /// is by 2^31 - 1 at most, an overlap by 2^31.
     ///
-    /// Refusals 2, 3, 4 or 5, 6, 7, 8, 9, in this order; each leaves record and table as they came.
+    /// Refusals 2, 3, 4 or 5, 6, 7, 8, 9, in this order, and 15 for the length of `out`; each leaves
+    /// record and table as they came.
     ///
     /// ```
     /// use flonterri::words::{self, RECORD_WORDS};
@@ -281,8 +300,10 @@ calls! {
     /// let (mut record, mut table) = ([0; RECORD_WORDS], [0; 30]);
     /// let first_tick = 4_294_970_000;
     /// assert_eq!(words::open(&mut record, &mut table, 1000, 0, 0, 0, 0, 1, 0, first_tick), 0);
-    /// assert_eq!(words::append_stamp(&mut record, &mut table, 2703, 1, 1), 5);
-    /// assert_eq!(words::append_stamp(&mut record, &mut table, 2704, 1, 1), 0);
+    /// let mut out = [0; words::DISTANCE_WORDS];
+    /// assert_eq!(words::append_stamp(&mut record, &mut table, 2703, 1, 1, &mut out), 5);
+    /// assert_eq!(out, [1]);
+    /// assert_eq!(words::append_stamp(&mut record, &mut table, 2704, 1, 1, &mut out), 0);
     /// ```
     fn append_stamp = flonterri_append_stamp(
         record: &mut [u64],
@@ -290,6 +311,7 @@ calls! {
         stamp: u32,
         duration: u32,
         count: u32,
+        out: &mut [u64],
     );
 
     /// Trims at a clock.
@@ -301,7 +323,7 @@ calls! {
     ///
     /// let (mut record, mut table) = ([0; RECORD_WORDS], [0; 30]);
     /// assert_eq!(words::open(&mut record, &mut table, 1000, 0, 0, 0, 10_000, 1, 0, 0), 0);
-    /// assert_eq!(words::append(&mut record, &mut table, 0, 4000, 5), 0);
+    /// assert_eq!(words::append(&mut record, &mut table, 0, 4000, 5, &mut [0]), 0);
     /// assert_eq!(words::trim(&mut record, &mut table, 18_000), 0);
     /// assert_eq!(table[..3], [8000, 4000, 3]);
     /// ```
@@ -317,7 +339,7 @@ calls! {
     ///
     /// let (mut record, mut table) = ([0; RECORD_WORDS], [0; 30]);
     /// assert_eq!(words::open(&mut record, &mut table, 1000, 0, 0, 0, 10_000, 1, 0, 0), 0);
-    /// assert_eq!(words::append(&mut record, &mut table, 0, 4000, 5), 0);
+    /// assert_eq!(words::append(&mut record, &mut table, 0, 4000, 5, &mut [0]), 0);
     /// let mut out = [0; words::VERDICT_WORDS];
     /// assert_eq!(words::verdict(&record, &table, 20_001, &mut out), 0);
     /// assert_eq!(out, [words::verdict_kind::LACKING, 10_000, 9_999, 20_000, 99]);
@@ -350,7 +372,7 @@ calls! {
     ///
     /// let (mut record, mut table) = ([0; RECORD_WORDS], [0; 30]);
     /// assert_eq!(words::open(&mut record, &mut table, 1000, 0, 0, 0, 10_000, 1, 0, 0), 0);
-    /// assert_eq!(words::append(&mut record, &mut table, 0, 4000, 5), 0);
+    /// assert_eq!(words::append(&mut record, &mut table, 0, 4000, 5, &mut [0]), 0);
     /// let mut out = [0; words::AVAILABILITY_WORDS];
     /// assert_eq!(words::availability(&record, &table, 3, &mut out), 0);
     /// assert_eq!(out, [words::availability_kind::ENDS, 12_000_000, 26_000_000]);
@@ -373,7 +395,7 @@ calls! {
     ///
     /// let (mut record, mut table) = ([0; RECORD_WORDS], [0; 30]);
     /// assert_eq!(words::open(&mut record, &mut table, 1000, 0, 0, 0, 10_000, 1, 0, 0), 0);
-    /// assert_eq!(words::append(&mut record, &mut table, 0, 4000, 5), 0);
+    /// assert_eq!(words::append(&mut record, &mut table, 0, 4000, 5, &mut [0]), 0);
     /// let mut out = [0; words::TOUCHING_WORDS];
     /// assert_eq!(words::touching(&record, &table, 19_999, 30_000, &mut out), 0);
     /// assert_eq!(out, [0, 3]);
@@ -396,7 +418,7 @@ calls! {
     ///
     /// let (mut record, mut table) = ([0; RECORD_WORDS], [0; 30]);
     /// assert_eq!(words::open(&mut record, &mut table, 1000, 0, 0, 0, 10_000, 1, 0, 0), 0);
-    /// assert_eq!(words::append(&mut record, &mut table, 0, 4000, 5), 0);
+    /// assert_eq!(words::append(&mut record, &mut table, 0, 4000, 5, &mut [0]), 0);
     /// let mut out = [0; words::EDGE_WORDS];
     /// assert_eq!(words::covered_edge(&record, &table, &mut out), 0);
     /// assert_eq!(out, [words::edge_kind::AT, 20_000]);
@@ -413,7 +435,7 @@ calls! {
     ///
     /// let (mut record, mut table) = ([0; RECORD_WORDS], [0; 30]);
     /// assert_eq!(words::open(&mut record, &mut table, 1000, 0, 0, 0, 10_000, 1, 0, 0), 0);
-    /// assert_eq!(words::append(&mut record, &mut table, 0, 4000, 5), 0);
+    /// assert_eq!(words::append(&mut record, &mut table, 0, 4000, 5, &mut [0]), 0);
     /// let mut out = [7; words::AVAILABLE_WORDS];
     /// assert_eq!(words::available_at(&record, &table, 3, 11_999, &mut out), 0);
     /// assert_eq!(out, [0]);
@@ -452,19 +474,19 @@ calls! {
     );
 
     /// Reads a file into record and table, which may hold any words before. A head of kind 01 has no
-    /// update period, and is read with 0. `out` is 1 word: the refused line, counted from 1, or 0 where
-    /// the file is accepted.
+    /// update period, and is read with 0. `out` is [`READ_WORDS`] words, in the order that [`read_word`]
+    /// tells.
     ///
     /// Refusals 1, 3 to 9, 16, 17, 18 by a line: the first refused line decides, and on a line 16 comes
-    /// first, then 17, then its fields. Each zeroes record and table and puts the line into `out`. And
+    /// first, then 17, then its fields. Each zeroes record and table and writes both words of `out`. And
     /// for the lengths alone 2, then 15, which leave record, table and `out` as they came.
     ///
     /// ```
     /// use flonterri::words::{self, RECORD_WORDS};
     ///
-    /// let (mut record, mut table, mut out) = ([7; RECORD_WORDS], [7; 30], [0]);
+    /// let (mut record, mut table, mut out) = ([7; RECORD_WORDS], [7; 30], [7; words::READ_WORDS]);
     /// assert_eq!(words::read(b"not a file\n", &mut record, &mut table, &mut out), 16);
-    /// assert_eq!((record, table, out), ([0; RECORD_WORDS], [0; 30], [1]));
+    /// assert_eq!((record, table, out), ([0; RECORD_WORDS], [0; 30], [1, 0]));
     /// ```
     fn read = flonterri_read(
         bytes: &[u8],
@@ -484,7 +506,7 @@ calls! {
     ///
     /// let (mut record, mut table) = ([0; RECORD_WORDS], [0; 30]);
     /// assert_eq!(words::open(&mut record, &mut table, 1000, 0, 0, 0, 10_000, 1, 0, 0), 0);
-    /// assert_eq!(words::append(&mut record, &mut table, 0, 4000, 5), 0);
+    /// assert_eq!(words::append(&mut record, &mut table, 0, 4000, 5, &mut [0]), 0);
     /// let (mut bytes, mut out) = ([0; 200], [0]);
     /// assert_eq!(words::write(&record, &table, &mut bytes, &mut out), 0);
     /// assert_eq!(out, [99 + 35 + 11]);

@@ -2,8 +2,8 @@
 
 use flonterri::words::{self, word, RECORD_WORDS};
 use flonterri::{
-    Availability, Grain, Head, Millis, Number, OpenError, ReadError, Refusal, RefusedFile, Run,
-    Span, Stamp, Tick, Timeline, Timescale, Verdict,
+    Availability, Distance, Grain, Head, Millis, Number, OpenError, ReadError, Refusal,
+    RefusedFile, Run, Span, Stamp, Tick, Timeline, Timescale, Verdict,
 };
 
 type Outcome = Result<(), OpenError>;
@@ -65,9 +65,52 @@ fn a_next_tick_and_gap() -> Outcome {
     let mut timeline = case_a()?;
     assert_eq!(timeline.next_tick(), Tick(161));
     let before = timeline.clone();
-    assert_eq!(timeline.append(Tick(170), Span(10), 1), Err(Refusal::Gap));
-    assert_eq!(timeline, before);
+    for (start, refusal) in [
+        (170, Refusal::Gap(Distance(9))),
+        (160, Refusal::Overlap(Distance(1))),
+        (0, Refusal::Overlap(Distance(161))),
+    ] {
+        let refused = timeline.append(Tick(start), Span(10), 1);
+        assert_eq!(refused, Err(refusal));
+        assert_eq!(timeline, before);
+    }
+    // Nothing to append has no distance, however far the start is off.
+    let refused = timeline.append(Tick(170), Span(0), 1);
+    assert_eq!(refused, Err(Refusal::NothingGiven));
     Ok(())
+}
+
+/// The distance of full ticks is a number of 64 bits, also where the start lies far over its limit.
+#[test]
+fn a_start_beyond_all_ticks() -> Outcome {
+    let mut timeline = Timeline::open(Head::new(Timescale(1)), Tick(0), 10)?;
+    timeline.append(Tick(0), Span(1), 1)?;
+    let refused = timeline.append(Tick(u64::MAX - 1), Span(1), 1);
+    let distance = Distance(18_446_744_073_709_551_613);
+    assert_eq!(refused, Err(Refusal::Gap(distance)));
+    Ok(())
+}
+
+/// A file behind case A's head that has its first reference and one from another tick on.
+fn file_of_a(start: u64, repeats: u32) -> String {
+    let first = "02000000000000006f0000002800000000";
+    let head = "010000000a000000000000006400000000000075300000000000002710000000000000000000000000";
+    let second = format!("02{:016x}0000000a{:08x}", start, repeats);
+    format!("{}\n{}\n{}\n0300000002\n", head, first, second)
+}
+
+#[test]
+fn a_file_with_a_gap_or_an_overlap() {
+    let refused = |start, repeats| Timeline::read(file_of_a(start, repeats).as_bytes(), 10);
+    let at_line_3 = |refusal| Err(ReadError::Refused(RefusedFile { refusal, line: 3 }));
+    assert_eq!(refused(160, 0), at_line_3(Refusal::Gap(Distance(9))));
+    assert_eq!(refused(150, 0), at_line_3(Refusal::Overlap(Distance(1))));
+    // A negative r changes nothing in it.
+    assert_eq!(refused(160, u32::MAX), at_line_3(Refusal::Gap(Distance(9))));
+    let shown = refused(160, 0).expect_err("a gap").to_string();
+    let by_9 = "line 3: refusal 4: the start lies after the next tick by 9";
+    assert_eq!(shown, by_9);
+    assert!(refused(151, 0).is_ok());
 }
 
 #[test]
@@ -259,10 +302,13 @@ fn c_stamps() -> Outcome {
     let opened = Timeline::open(head, Tick(4_294_970_000), 10)?;
     for (stamp, outcome) in [
         (2704, Ok(())),
-        (2705, Err(Refusal::Gap)),
-        (2703, Err(Refusal::Overlap)),
-        (2_147_486_351, Err(Refusal::Gap)),
-        (2_147_486_352, Err(Refusal::Overlap)),
+        (2705, Err(Refusal::Gap(Distance(1)))),
+        (2703, Err(Refusal::Overlap(Distance(1)))),
+        (2_147_486_351, Err(Refusal::Gap(Distance(2_147_483_647)))),
+        (
+            2_147_486_352,
+            Err(Refusal::Overlap(Distance(2_147_483_648))),
+        ),
     ] {
         let answer = opened.clone().append_stamp(Stamp(stamp), Span(1), 1);
         assert_eq!(answer, outcome);
@@ -507,26 +553,73 @@ fn words_that_a_refusal_leaves() {
     let number = words::open(&mut record[1..], &mut table, 1, 0, 0, 0, 0, 0, 0, 0);
     assert_eq!((number, record, table), (2, came, table_came));
 
-    let (mut record, mut table, mut out) = (came, table_came, [9]);
+    let (mut record, mut table, mut out) = (came, table_came, [9, 9]);
     let number = words::read(b"", &mut record, &mut table, &mut out);
     assert_eq!((number, record, table), (16, [0; RECORD_WORDS], [0; 3]));
-    assert_eq!(out, [1]);
-    let (mut record, mut table, mut out) = (came, table_came, [9, 9]);
+    assert_eq!(out, [1, 0]);
+    let (mut record, mut table, mut out) = (came, table_came, [9]);
     let number = words::read(b"", &mut record[1..], &mut table, &mut out);
-    assert_eq!((number, record, table, out), (2, came, table_came, [9, 9]));
+    assert_eq!((number, record, table, out), (2, came, table_came, [9]));
     let number = words::read(b"", &mut record, &mut table, &mut out);
-    assert_eq!((number, record, table, out), (15, came, table_came, [9, 9]));
+    assert_eq!((number, record, table, out), (15, came, table_came, [9]));
+    let bytes = file_of_a(160, 0).into_bytes();
+    let (mut record, mut table, mut out) = (came, table_came, [9, 9]);
+    let number = words::read(&bytes, &mut record, &mut table, &mut out);
+    assert_eq!((number, record, table), (4, [0; RECORD_WORDS], [0; 3]));
+    assert_eq!(out, [3, 9]);
+}
+
+/// An append writes its `out` where it is 4 or 5, and nowhere else.
+#[test]
+fn words_of_a_distance() -> Outcome {
+    let timeline = case_a()?;
+    let (came, table_came) = (*timeline.record_words(), timeline.table_words());
+    for (start, duration, expected) in [
+        (161, 10, (0, 77)),
+        (170, 0, (3, 77)),
+        (170, 10, (4, 9)),
+        (160, 10, (5, 1)),
+        (161, u32::MAX, (0, 77)),
+    ] {
+        let (mut record, mut table, mut out) = (came, table_came.to_vec(), [77]);
+        let by_tick = words::append(&mut record, &mut table, start, duration, 1, &mut out);
+        assert_eq!((by_tick, out[0]), expected);
+        let (mut record, mut table, mut out) = (came, table_came.to_vec(), [77]);
+        let stamp = start as u32;
+        let by_stamp = words::append_stamp(&mut record, &mut table, stamp, duration, 1, &mut out);
+        assert_eq!((by_stamp, out[0]), expected);
+        assert_eq!(record == came, expected.0 != 0);
+    }
+    Ok(())
+}
+
+/// The lengths are judged before all else, and leave all as it came.
+#[test]
+fn a_distance_of_another_length() {
+    let (mut record, mut table, mut out) = ([9; RECORD_WORDS], [9; 3], [77; 2]);
+    for length in [0, 2] {
+        let out = &mut out[..length];
+        assert_eq!(words::append(&mut record, &mut table, 5, 0, 0, out), 15);
+        let by_stamp = words::append_stamp(&mut record, &mut table, 5, 0, 0, out);
+        assert_eq!(by_stamp, 15);
+        let short = words::append(&mut record[1..], &mut table, 5, 0, 0, out);
+        assert_eq!(short, 2);
+    }
+    assert_eq!((record, table, out), ([9; RECORD_WORDS], [9; 3], [77; 2]));
 }
 
 #[test]
 fn refusals_have_their_numbers() {
-    for (number, refusal) in (1..).zip(Refusal::ALL) {
+    let distance = Distance(9);
+    for number in 1..=19 {
+        let refusal = Refusal::from_number(number, distance).expect("a refusal");
         assert_eq!(refusal.number(), number);
-        assert_eq!(Refusal::from_number(number), Some(refusal));
-        assert!(refusal
-            .to_string()
-            .starts_with(&format!("refusal {}: ", number)));
+        let far = number == 4 || number == 5;
+        assert_eq!(refusal.distance(), Some(distance).filter(|_| far));
+        let by = if far { " by 9" } else { "" };
+        let shown = format!("refusal {}: {}{}", number, refusal.message(), by);
+        assert_eq!(refusal.to_string(), shown);
     }
-    assert_eq!(Refusal::from_number(0), None);
-    assert_eq!(Refusal::from_number(20), None);
+    assert_eq!(Refusal::from_number(0, distance), None);
+    assert_eq!(Refusal::from_number(20, distance), None);
 }

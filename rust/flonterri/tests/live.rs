@@ -3,8 +3,8 @@
 
 use flonterri::words::{self, RECORD_WORDS};
 use flonterri::{
-    Grain, Head, Millis, Number, OpenError, Reference, Refusal, Span, Stamp, Tick, Timeline,
-    Timescale, Verdict,
+    Distance, Grain, Head, Millis, Number, OpenError, Reference, Refusal, Span, Stamp, Tick,
+    Timeline, Timescale, Verdict,
 };
 
 type Outcome = Result<(), OpenError>;
@@ -173,7 +173,7 @@ fn on_after_a_gap() -> Outcome {
     timeline.trim(Millis(20_000))?;
     let stamp = Stamp(24_000);
     let refused = timeline.append_stamp(stamp, Span(4000), 3);
-    assert_eq!(refused, Err(Refusal::Gap));
+    assert_eq!(refused, Err(Refusal::Gap(Distance(4000))));
 
     let start = timeline.full_tick(stamp).expect("a tick");
     let head = Head {

@@ -4,8 +4,8 @@
 use std::time::{Duration, Instant};
 
 use flonterri::words::{
-    self, word, AVAILABILITY_WORDS, AVAILABLE_WORDS, EDGE_WORDS, FULL_TICK_WORDS, RECORD_WORDS,
-    TOUCHING_WORDS, VERDICT_WORDS,
+    self, word, AVAILABILITY_WORDS, AVAILABLE_WORDS, EDGE_WORDS, FULL_TICK_WORDS, READ_WORDS,
+    RECORD_WORDS, TOUCHING_WORDS, VERDICT_WORDS,
 };
 
 /// As many references as a timeline may accept, each of one tick.
@@ -29,9 +29,13 @@ fn opened() -> Words {
 
 fn filled() -> Words {
     let (mut record, mut table) = opened();
-    assert_eq!(words::append(&mut record, &mut table, 0, 1, MOST), 0);
+    fill(&mut record, &mut table);
     assert_eq!(table[..3], [0, 1, u64::from(MOST)]);
     (record, table)
+}
+
+fn fill(record: &mut [u64], table: &mut [u64]) {
+    assert_eq!(words::append(record, table, 0, 1, MOST, &mut [0]), 0);
 }
 
 /// Makes a call until it is over in a moment, and gives what it comes to.
@@ -49,7 +53,7 @@ fn soon<T>(mut call: impl FnMut() -> T) -> T {
 #[test]
 fn calls_that_change() {
     let stamped = |(mut record, mut table): Words| {
-        let number = words::append_stamp(&mut record, &mut table, 0, 1, MOST);
+        let number = words::append_stamp(&mut record, &mut table, 0, 1, MOST, &mut [0]);
         (number, record[word::DROPPED], record[word::RUNS_USED])
     };
     let trimmed = |(mut record, mut table): Words, clock| {
@@ -113,7 +117,7 @@ fn the_whole_period() {
     let last = u64::from(MOST);
     let number = words::open(&mut record, &mut table, 1000, 0, 0, last, 0, 0, 0, 0);
     assert_eq!(number, 0);
-    assert_eq!(words::append(&mut record, &mut table, 0, 1, MOST), 0);
+    fill(&mut record, &mut table);
     let mut verdict = [0; VERDICT_WORDS];
     assert_eq!(
         soon(|| words::verdict_whole(&record, &table, &mut verdict)),
@@ -131,8 +135,8 @@ fn a_file() {
         0
     );
     assert_eq!(length, [145]);
-    let (mut read, mut words_read, mut line) = ([7; RECORD_WORDS], [7; 30], [7]);
-    let mut reading = || words::read(&bytes[..145], &mut read, &mut words_read, &mut line);
+    let (mut read, mut words_read, mut out) = ([7; RECORD_WORDS], [7; 30], [7; READ_WORDS]);
+    let mut reading = || words::read(&bytes[..145], &mut read, &mut words_read, &mut out);
     assert_eq!(soon(&mut reading), 0);
-    assert_eq!((read, words_read, line), (record, table, [0]));
+    assert_eq!((read, words_read, out), (record, table, [0, 0]));
 }

@@ -6,8 +6,10 @@
 //! ```
 use std::io::{self, Read};
 
+use plain::desk::by;
 use plain::face;
 use plain::record::{self, RECORD_WORDS};
+use plain::units::Distance;
 
 /// As many numbers as the longest call has, an opening.
 type Numbers = [u64; 8];
@@ -21,17 +23,18 @@ fn numbers(step: &str) -> Numbers {
     numbers
 }
 
-/// The number of a call that changes, or nothing for one that looks.
-fn change(name: &str, record: &mut [u64], table: &mut [u64], numbers: Numbers) -> Option<u32> {
+/// The number of a call that changes and the distance that it tells, or nothing for one that looks.
+fn change(name: &str, record: &mut [u64], table: &mut [u64], numbers: Numbers) -> Option<String> {
     let [a, b, c, d, e, f, g, h] = numbers;
+    let mut out = [0];
     let number = match name {
         "open" => face::open(record, table, a as u32, b, c, d, e, f as u32, g, h),
-        "append" => face::append(record, table, a, b as u32, c as u32),
-        "stamp" => face::append_stamp(record, table, a as u32, b as u32, c as u32),
+        "append" => face::append(record, table, a, b as u32, c as u32, &mut out),
+        "stamp" => face::append_stamp(record, table, a as u32, b as u32, c as u32, &mut out),
         "trim" => face::trim(record, table, a),
         _ => return None,
     };
-    Some(number)
+    Some(format!("{}{}", number, by(Distance::new(out[0]))))
 }
 
 fn words(list: &[u64]) -> String {
@@ -78,7 +81,7 @@ fn run(steps: &str, length: usize) {
         let name = step.split(' ').next().expect("a name");
         let numbers = numbers(step);
         let answer = match change(name, &mut record, &mut table, numbers) {
-            Some(number) => format!(" {} |{} |{}", number, words(&record), words(&table)),
+            Some(outcome) => format!(" {} |{} |{}", outcome, words(&record), words(&table)),
             None => look(name, &record, &table, numbers),
         };
         println!("{}:{}", step, answer);

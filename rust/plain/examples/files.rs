@@ -5,8 +5,10 @@
 //! ```text
 //! cargo run --manifest-path ../../../rust/plain/Cargo.toml --example files -- $(cat ../args)
 //! ```
+use plain::desk::by;
 use plain::face;
 use plain::record::RECORD_WORDS;
+use plain::units::Distance;
 
 /// The program's table: two runs, and a word beside them.
 const WORDS: usize = 7;
@@ -27,7 +29,8 @@ fn case_b() {
         face::open(&mut record, &mut table, 1000, 0, 0, 0, 10_000, 1, 0, 0),
         0
     );
-    assert_eq!(face::append(&mut record, &mut table, 0, 4000, 5), 0);
+    let filled = face::append(&mut record, &mut table, 0, 4000, 5, &mut [0]);
+    assert_eq!(filled, 0);
     assert_eq!(face::trim(&mut record, &mut table, 18_000), 0);
     print_file(&record, &table);
 }
@@ -36,18 +39,25 @@ fn case_b() {
 fn judge(name: &str, bytes: &[u8]) {
     let mut record = [0; RECORD_WORDS];
     let mut table = [9; WORDS];
-    let mut line = [0];
-    let answer = match face::read(bytes, &mut record, &mut table, &mut line) {
+    let mut out = [0; 2];
+    let number = face::read(bytes, &mut record, &mut table, &mut out);
+    let [line, distance] = out;
+    let answer = match number {
         0 => format!(
             "accepted {} dropped {} next {} runs {}",
             record[7], record[8], record[9], record[11]
         ),
-        number => format!("refused {} line {}", number, line[0]),
+        number => format!(
+            "refused {} line {}{}",
+            number,
+            line,
+            by(Distance::new(distance))
+        ),
     };
     let words: String = table.iter().map(|word| format!(" {}", word)).collect();
     let one = format!(" {}{};", answer, words);
     println!("{}:{}", name, one.repeat(3));
-    if line[0] == 0 {
+    if line == 0 {
         print_file(&record, &table);
     }
 }

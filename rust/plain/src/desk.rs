@@ -3,7 +3,7 @@
 use crate::file::{read, split_clock_line, RefusedLine};
 use crate::record::capacity;
 use crate::refusal::Refusal;
-use crate::units::Millis;
+use crate::units::{Distance, Millis};
 use crate::verdict::Verdict;
 
 /// Words in the program's table: 1,024 runs.
@@ -14,9 +14,15 @@ pub fn answer(input: &[u8]) -> String {
     match judge(input) {
         Ok(verdict) => verdict_line(verdict),
         Err(RefusedLine { refusal, line }) => {
-            format!("refused {} line {}\n", refusal.number(), line)
+            let by = by(refusal.distance());
+            format!("refused {} line {}{}\n", refusal.number(), line, by)
         }
     }
+}
+
+/// What stands behind a refusal that has a distance; nothing behind one that has none.
+pub fn by(distance: Option<Distance>) -> String {
+    distance.map_or_else(String::new, |ticks| format!(" by {}", ticks.get()))
 }
 
 /// The clock line is judged first, its limit included, then the file, then the verdict. Line 0

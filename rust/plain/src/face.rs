@@ -5,18 +5,25 @@
 //! tick, greatest clock, runs used. A record of another length is 2; then an `out` of another
 //! length than the function's is 15; both leave all memory as it came.
 //!
-//! On another refusal `out` stays as it came, but for the line of a refused reading. Opening
-//! refused: record zeroed, table as it came. Reading refused: record and table zeroed. Any other
-//! refused call changes nothing.
+//! On another refusal `out` stays as it came, but for a refused reading, which tells the line and
+//! the distance, and for an append that is 4 or 5, which tells the distance. Opening refused: record
+//! zeroed, table as it came. Reading refused: record and table zeroed. Any other refused call
+//! changes no record and no table.
 
 use crate::availability::Availability;
 use crate::file;
 use crate::record::{capacity, decode, encode, RECORD_WORDS, RUN_WORDS};
 use crate::refusal::Refusal;
 use crate::timeline::Timeline;
-use crate::units::{Millis, Tick};
+use crate::units::{Distance, Millis, Tick};
 use crate::verdict::Verdict;
 use crate::window::HeadFields;
+
+/// Words that tell the distance of a start and the next tick.
+const DISTANCE_WORDS: usize = 1;
+
+/// Words that tell of a reading: line, distance.
+const READ_WORDS: usize = 2;
 
 /// The number of an outcome: 0 where accepted.
 fn number_of(outcome: Result<(), Refusal>) -> u32 {
@@ -77,37 +84,61 @@ fn change(
     record: &mut [u64],
     table: &mut [u64],
     call: impl FnOnce(&mut Timeline) -> Result<(), Refusal>,
-) -> u32 {
-    number_of(decode(record, table).and_then(|mut timeline| {
-        call(&mut timeline)?;
-        encode(&timeline, record, table);
-        Ok(())
-    }))
+) -> Result<(), Refusal> {
+    let mut timeline = decode(record, table)?;
+    call(&mut timeline)?;
+    encode(&timeline, record, table);
+    Ok(())
 }
 
-/// Appends by full tick. Refusals 2, 3, 4 or 5, 6, 7, 8, 9.
-pub fn append(record: &mut [u64], table: &mut [u64], start: u64, duration: u32, count: u32) -> u32 {
-    change(record, table, |timeline| {
+/// Changes by an append. The distance of a refusal 4 or 5 goes into `out`; with any other answer
+/// `out` stays as it came.
+fn change_or_tell(
+    record: &mut [u64],
+    table: &mut [u64],
+    out: &mut [u64],
+    call: impl FnOnce(&mut Timeline) -> Result<(), Refusal>,
+) -> u32 {
+    let outcome =
+        judge_lengths(record, out, DISTANCE_WORDS).and_then(|()| change(record, table, call));
+    if let Some(distance) = outcome.err().and_then(Refusal::distance) {
+        out[0] = distance.get();
+    }
+    number_of(outcome)
+}
+
+/// Appends by full tick. Refusals 2, 3, 4 or 5, 6, 7, 8, 9. `out` is 1 word: the distance of start
+/// and next tick, written only where the answer is 4 or 5.
+pub fn append(
+    record: &mut [u64],
+    table: &mut [u64],
+    start: u64,
+    duration: u32,
+    count: u32,
+    out: &mut [u64],
+) -> u32 {
+    change_or_tell(record, table, out, |timeline| {
         timeline.append(start, duration, count)
     })
 }
 
-/// Appends by stamp. Refusals 2, 3, 4 or 5, 6, 7, 8, 9.
+/// Appends by stamp. Refusals and `out` as for [`append`].
 pub fn append_stamp(
     record: &mut [u64],
     table: &mut [u64],
     stamp: u32,
     duration: u32,
     count: u32,
+    out: &mut [u64],
 ) -> u32 {
-    change(record, table, |timeline| {
+    change_or_tell(record, table, out, |timeline| {
         timeline.append_stamp(stamp, duration, count)
     })
 }
 
 /// Trims. Refusals 2, 10.
 pub fn trim(record: &mut [u64], table: &mut [u64], clock: u64) -> u32 {
-    change(record, table, |timeline| timeline.trim(clock))
+    number_of(change(record, table, |timeline| timeline.trim(clock)))
 }
 
 /// Asks a timeline and puts the answer's words into `out`; a refusal leaves `out` as it came.
@@ -222,22 +253,23 @@ pub fn touching(record: &[u64], table: &[u64], a: u64, b: u64, out: &mut [u64]) 
     })
 }
 
-/// Reads a whole file. Refusals 1, 3 to 9, 16, 17, 18. `out` is 1 word: the refused line, 0 where
-/// accepted.
+/// Reads a whole file. Refusals 1, 3 to 9, 16, 17, 18. `out` is 2 words: the refused line, 0 where
+/// accepted, and the distance of its start and the next tick, 0 where the answer is not 4 or 5.
 pub fn read(bytes: &[u8], record: &mut [u64], table: &mut [u64], out: &mut [u64]) -> u32 {
-    if let Err(refusal) = judge_lengths(record, out, 1) {
+    if let Err(refusal) = judge_lengths(record, out, READ_WORDS) {
         return refusal.number();
     }
     match file::read(bytes, capacity(table.len())) {
         Ok(timeline) => {
             encode(&timeline, record, table);
-            out[0] = 0;
+            out.fill(0);
             0
         }
         Err(refused) => {
             record.fill(0);
             table.fill(0);
-            out[0] = refused.line;
+            let distance = refused.refusal.distance();
+            out.copy_from_slice(&[refused.line, distance.map_or(0, Distance::get)]);
             refused.refusal.number()
         }
     }

@@ -1,53 +1,84 @@
 //! The refusal numbers. Paper: "Refusal numbers".
 
+use crate::units::Distance;
+
 /// Why a call is refused; each case bears the paper's number.
 #[derive(Clone, Copy, Debug, PartialEq, Eq, PartialOrd, Ord, Hash)]
-#[repr(u32)]
 pub enum Refusal {
     /// 1: a head field, first tick at opening, or offset is over its limit, or timescale 0.
-    OverLimit = 1,
+    OverLimit,
     /// 2: record and table disagree.
-    Disagree = 2,
+    Disagree,
     /// 3: duration or count 0.
-    ZeroDurationOrCount = 3,
-    /// 4: start after the next tick.
-    StartAfterNext = 4,
-    /// 5: start before the next tick.
-    StartBeforeNext = 5,
+    ZeroDurationOrCount,
+    /// 4: start after the next tick, by so many ticks.
+    StartAfterNext(Distance),
+    /// 5: start before the next tick, by so many ticks.
+    StartBeforeNext(Distance),
     /// 6: an end over 2^52 - 1.
-    EndOverLimit = 6,
+    EndOverLimit,
     /// 7: accepted total over 2^31, or first number plus accepted over 2^32 - 1.
-    TooMany = 7,
+    TooMany,
     /// 8: a reference starts at or after a known period end.
-    StartsPastPeriod = 8,
+    StartsPastPeriod,
     /// 9: a stored part needs a new run and used runs equal capacity.
-    TableFull = 9,
+    TableFull,
     /// 10: clock over its limit.
-    ClockOverLimit = 10,
+    ClockOverLimit,
     /// 11: verdict clock before the greatest clock.
-    ClockBeforeGreatest = 11,
+    ClockBeforeGreatest,
     /// 12: writing with no run kept.
-    NothingKept = 12,
+    NothingKept,
     /// 13: number not kept.
-    NumberNotKept = 13,
+    NumberNotKept,
     /// 14: a at or after b.
-    EmptySpan = 14,
+    EmptySpan,
     /// 15: output shorter than the whole file.
-    OutputTooShort = 15,
+    OutputTooShort,
     /// 16: line too short, too long, not lower-case hex, unknown kind, unended, missing, or extra
     /// after the end.
-    BadLine = 16,
+    BadLine,
     /// 17: frame out of order, S after a negative r, wrong S count.
-    OutOfOrder = 17,
+    OutOfOrder,
     /// 18: negative r and no known end.
-    NegativeWithoutEnd = 18,
+    NegativeWithoutEnd,
     /// 19: whole-period verdict, end unknown.
-    EndUnknown = 19,
+    EndUnknown,
 }
 
 impl Refusal {
     /// The paper's number.
     pub fn number(self) -> u32 {
-        self as u32
+        match self {
+            Refusal::OverLimit => 1,
+            Refusal::Disagree => 2,
+            Refusal::ZeroDurationOrCount => 3,
+            Refusal::StartAfterNext(_) => 4,
+            Refusal::StartBeforeNext(_) => 5,
+            Refusal::EndOverLimit => 6,
+            Refusal::TooMany => 7,
+            Refusal::StartsPastPeriod => 8,
+            Refusal::TableFull => 9,
+            Refusal::ClockOverLimit => 10,
+            Refusal::ClockBeforeGreatest => 11,
+            Refusal::NothingKept => 12,
+            Refusal::NumberNotKept => 13,
+            Refusal::EmptySpan => 14,
+            Refusal::OutputTooShort => 15,
+            Refusal::BadLine => 16,
+            Refusal::OutOfOrder => 17,
+            Refusal::NegativeWithoutEnd => 18,
+            Refusal::EndUnknown => 19,
+        }
+    }
+
+    /// How far the start stands from the next tick; only 4 and 5 have it.
+    pub fn distance(self) -> Option<Distance> {
+        match self {
+            Refusal::StartAfterNext(distance) | Refusal::StartBeforeNext(distance) => {
+                Some(distance)
+            }
+            _ => None,
+        }
     }
 }

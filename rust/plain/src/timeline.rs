@@ -2,7 +2,7 @@
 
 use crate::reference::{runs_of, Reference, Run};
 use crate::refusal::Refusal;
-use crate::units::{Grains, Millis, Number, RefDuration, Tick};
+use crate::units::{Distance, Grains, Millis, Number, RefDuration, Tick};
 use crate::window::{Head, HeadFields};
 
 /// The most references ever accepted: 2^31.
@@ -102,18 +102,14 @@ impl Timeline {
     /// An append by 32-bit stamp. Refusals 3, 4 or 5, 6, 7, 8, 9.
     pub fn append_stamp(&mut self, stamp: u32, duration: u32, count: u32) -> Result<(), Refusal> {
         let (duration, count) = above_zero(duration, count)?;
-        self.judge_stamp(stamp)?;
+        judge_join(self.stamp_past_next(stamp))?;
         self.append_joined(duration, count)
     }
 
     /// The full tick of a stamp: the next tick plus the difference where the stamp joins or is a gap,
     /// and 2^32 ticks before that where it is an overlap; none below 0 or over the limit of a tick.
     pub fn full_tick(&self, stamp: u32) -> Option<Tick> {
-        let difference = self.stamp_less_next(stamp);
-        let ticks = match self.judge_stamp(stamp) {
-            Err(Refusal::StartBeforeNext) => difference - (1 << 32),
-            _ => difference,
-        };
+        let ticks = self.stamp_past_next(stamp);
         self.next_tick.wide().later(ticks).limited()
     }
 
@@ -167,29 +163,18 @@ impl Timeline {
 
     /// Refusals 4 and 5 for a full tick.
     fn judge_start(&self, start: u64) -> Result<(), Refusal> {
-        if start > self.next_tick.get() {
-            Err(Refusal::StartAfterNext)
-        } else if start < self.next_tick.get() {
-            Err(Refusal::StartBeforeNext)
-        } else {
-            Ok(())
-        }
+        judge_join(i128::from(start) - i128::from(self.next_tick.get()))
     }
 
-    /// Refusals 4 and 5 for a stamp: stamp less next tick, modulo 2^32; 0 joins, 1 to 2^31 - 1 is
-    /// a gap, the rest an overlap.
-    fn judge_stamp(&self, stamp: u32) -> Result<(), Refusal> {
-        match self.stamp_less_next(stamp) {
-            0 => Ok(()),
-            1..=0x7fff_ffff => Err(Refusal::StartAfterNext),
-            _ => Err(Refusal::StartBeforeNext),
-        }
-    }
-
-    /// Stamp less next tick, modulo 2^32.
-    fn stamp_less_next(&self, stamp: u32) -> i128 {
+    /// How many ticks a stamp stands after the next tick, negative where it stands before. That is
+    /// stamp less next tick, modulo 2^32: 0 joins, 1 to 2^31 - 1 is a gap by that, and the rest is an
+    /// overlap by what is missing to 2^32.
+    fn stamp_past_next(&self, stamp: u32) -> i128 {
         let difference = i128::from(stamp) - i128::from(self.next_tick.get());
-        difference.rem_euclid(1 << 32)
+        match difference.rem_euclid(1 << 32) {
+            ahead @ 0..=0x7fff_ffff => ahead,
+            rest => rest - (1 << 32),
+        }
     }
 
     /// The rest of an append whose start is the next tick. Refusals 6, 7, 8, 9.
@@ -273,6 +258,17 @@ fn above_zero(duration: u32, count: u32) -> Result<(RefDuration, u32), Refusal> 
     match RefDuration::new(u64::from(duration)) {
         Some(duration) if count > 0 => Ok((duration, count)),
         _ => Err(Refusal::ZeroDurationOrCount),
+    }
+}
+
+/// Refusals 4 and 5 of a start that stands so many ticks after the next tick, or before it where
+/// negative.
+fn judge_join(ticks_past: i128) -> Result<(), Refusal> {
+    let ticks = u64::try_from(ticks_past.abs()).expect("both ticks are of 64 bits");
+    match Distance::new(ticks) {
+        None => Ok(()),
+        Some(distance) if ticks_past > 0 => Err(Refusal::StartAfterNext(distance)),
+        Some(distance) => Err(Refusal::StartBeforeNext(distance)),
     }
 }
 

@@ -124,6 +124,22 @@ impl WideTick {
     }
 }
 
+/// How many ticks a start that does not join stands from the next tick, on either side: at least 1.
+#[derive(Clone, Copy, Debug, PartialEq, Eq, PartialOrd, Ord, Hash)]
+pub struct Distance(u64);
+
+impl Distance {
+    /// The distance, if it is not 0.
+    pub fn new(ticks: u64) -> Option<Self> {
+        Some(ticks).filter(|value| *value > 0).map(Distance)
+    }
+
+    /// The number of ticks.
+    pub fn get(self) -> u64 {
+        self.0
+    }
+}
+
 /// The duration of a reference: 1 to 4,294,967,295 ticks.
 #[derive(Clone, Copy, Debug, PartialEq, Eq)]
 pub struct RefDuration(u32);

@@ -60,6 +60,8 @@ fn refusals_end_with_status_0_too() {
     assert_eq!(run(b""), "refused 16 line 0\n");
     assert_eq!(run(b"040000000000000000\n"), "refused 16 line 1\n");
     assert_eq!(run(&[0xff; 100_000]), "refused 16 line 0\n");
+    let gap = FILE.replace("0300000001", "020000000000004e2900000fa000000000");
+    assert_eq!(ask(0, &gap), "refused 4 line 3 by 9\n");
     let cut = format!("040000000000000000\n{}", &FILE[..110]);
     assert_eq!(run(cut.as_bytes()), "refused 16 line 2\n");
 }

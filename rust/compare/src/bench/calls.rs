@@ -92,12 +92,12 @@ impl Channel {
     /// Accepted, dropped, next tick and greatest clock after all calls through the archive.
     fn through_archive(&self, calls: &[Call]) -> [u64; 4] {
         let mut record = [0; RECORD_WORDS];
-        let mut table = vec![0; self.table_words];
+        let (mut table, mut out) = (vec![0; self.table_words], [0]);
         let mut numbers = (ARCHIVE.open)(&mut record, &mut table, &self.head());
         for call in calls {
             numbers |= match *call {
                 Call::Append { start, duration } => {
-                    (ARCHIVE.append)(&mut record, &mut table, start, duration, 1)
+                    (ARCHIVE.append)(&mut record, &mut table, start, duration, 1, &mut out)
                 }
                 Call::Trim { clock } => (ARCHIVE.trim)(&mut record, &mut table, clock),
             };

@@ -47,7 +47,7 @@ impl State {
     }
 
     fn append(&mut self, count: u32) {
-        let number = (ARCHIVE.append)(&mut self.record, &mut self.table, 0, 1, count);
+        let number = (ARCHIVE.append)(&mut self.record, &mut self.table, 0, 1, count, &mut [0]);
         assert_eq!(number, 0, "the append is accepted");
     }
 

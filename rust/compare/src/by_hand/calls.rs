@@ -2,13 +2,13 @@
 
 use flonterri::words::word;
 
-use super::said::{accepted, out, refused, Said};
+use super::said::{accepted, gap, out, overlap, refused, Said};
 use super::{old_worked_file, CASE_A, CASE_B, CASE_B_UPDATE, CASE_C, CASE_D, WORKED_FILE};
 use crate::face::Faces;
 use crate::opening::Opening;
 use crate::sequence::compare_step;
-use crate::step::{Call, Lent, Step};
-use crate::text::{bytes_of, Line};
+use crate::step::{Call, Lent, Step, OUT_CAME};
+use crate::text::{bytes_of, Line, ALL_ONES};
 
 /// A case: an opening, and calls with what the paper says of each.
 struct Case {
@@ -52,7 +52,9 @@ fn case_a() -> Case {
         calls: vec![
             (append(111, 40, 1), accepted()),
             (append(151, 10, 1), accepted().record(word::NEXT_TICK, 161)),
-            (append(170, 10, 1), refused(4)),
+            (append(170, 10, 1), gap(9)),
+            (append(160, 10, 1), overlap(1)),
+            (append(170, 0, 1), refused(3).told(&[OUT_CAME])),
             (Call::Availability { number: 0 }, out(&[0, 351_000, 0])),
             (Call::VerdictWhole, out(&[2, 100, 50, 100, 50])),
         ],
@@ -100,7 +102,7 @@ fn trims_of_case_b() -> Vec<(Call, Said)> {
 fn case_b_trims() -> Case {
     let length = WORKED_FILE.len();
     let read = |bytes: Vec<u8>| {
-        let said = out(&[0])
+        let said = out(&[0, 0])
             .front(&[8000, 4000, 3])
             .record(word::FIRST_NUMBER, 3)
             .record(word::UPDATE_PERIOD, 0)
@@ -139,7 +141,7 @@ fn case_b_update() -> Vec<Case> {
             Call::Read {
                 bytes: written.into(),
             },
-            out(&[0]).record(word::UPDATE_PERIOD, 2_000),
+            out(&[0, 0]).record(word::UPDATE_PERIOD, 2_000),
         ),
     ]);
     let verdicts = vec![
@@ -210,10 +212,10 @@ fn update_at_its_limit() -> Vec<Case> {
 fn cases_c() -> Vec<Case> {
     let stamps = [
         (2704, accepted().front(&[4_294_970_000, 1, 1])),
-        (2705, refused(4)),
-        (2703, refused(5)),
-        (2_147_486_351, refused(4)),
-        (2_147_486_352, refused(5)),
+        (2705, gap(1)),
+        (2703, overlap(1)),
+        (2_147_486_351, gap(2_147_483_647)),
+        (2_147_486_352, overlap(2_147_483_648)),
     ];
     let case = |(number, said)| Case {
         name: "C",
@@ -221,6 +223,51 @@ fn cases_c() -> Vec<Case> {
         calls: vec![(stamp(number), said)],
     };
     IntoIterator::into_iter(stamps).map(case).collect()
+}
+
+/// Full ticks are subtracted as numbers of 64 bits. A stamp goes round the circle, and may so name no
+/// tick at all: behind tick 1, an overlap by 2.
+fn behind_one_tick() -> Case {
+    Case {
+        name: "one reference of a tick from 0",
+        opening: Opening::OPEN_ENDED,
+        calls: vec![
+            (append(0, 1, 1), accepted().told(&[OUT_CAME])),
+            (append(ALL_ONES - 1, 1, 1), gap(18_446_744_073_709_551_613)),
+            (append(0, 1, 1), overlap(1)),
+            (stamp(u32::MAX), overlap(2)),
+            (stamp(2_147_483_648), gap(2_147_483_647)),
+            (stamp(2_147_483_649), overlap(2_147_483_648)),
+        ],
+    }
+}
+
+/// Files with lines that do not join: the first of them decides, a negative r changes nothing in it,
+/// a duration of 0 comes before it, and the first S line never has a distance.
+fn files_that_do_not_join() -> Case {
+    let read = |lines: &[(u64, u32, i32)], said: Said| {
+        let s_lines = lines.iter().map(|&(t, d, r)| Line::S { t, d, r });
+        let mut file = vec![Line::Head(Opening::OPEN_ENDED)];
+        file.extend(s_lines);
+        file.push(Line::End(lines.len() as u32));
+        let bytes = bytes_of(&file);
+        (Call::Read { bytes }, said)
+    };
+    let (first, far) = ((0, 1, 0), 18_446_744_073_709_551_613);
+    Case {
+        name: "files whose lines do not join",
+        opening: Opening::OPEN_ENDED,
+        calls: vec![
+            read(&[first, (10, 1, 0), (15, 1, 0)], refused(4).told(&[3, 9])),
+            read(&[first, (10, 1, -1)], refused(4).told(&[3, 9])),
+            read(&[first, (1, 1, -1)], refused(18).told(&[3, 0])),
+            read(&[first, (10, 0, 0)], refused(3).told(&[3, 0])),
+            read(&[first, (0, 1, 0)], refused(5).told(&[3, 1])),
+            read(&[first, (ALL_ONES - 1, 1, 0)], refused(4).told(&[3, far])),
+            read(&[(ALL_ONES - 1, 1, 0)], refused(1).told(&[2, 0])),
+            read(&[(9, 1, 0)], out(&[0, 0])),
+        ],
+    }
 }
 
 /// Case D: a period end inside a tick.
@@ -337,8 +384,8 @@ fn emptied_table() -> Case {
                 trim(1_000_000),
                 accepted().front(&[]).record(word::NEXT_TICK, 20_000),
             ),
-            (append(20_001, 4000, 1), refused(4)),
-            (append(19_999, 4000, 1), refused(5)),
+            (append(20_001, 4000, 1), gap(1)),
+            (append(19_999, 4000, 1), overlap(1)),
             (append(20_000, 980_000, 1), accepted()),
             (Call::Availability { number: 5 }, refused(13)),
             (
@@ -362,6 +409,8 @@ fn cases() -> Vec<Case> {
         judged_by_its_end(),
         spent_with_the_period(),
         emptied_table(),
+        behind_one_tick(),
+        files_that_do_not_join(),
     ];
     cases.extend(cases_c());
     cases.extend(case_b_update());

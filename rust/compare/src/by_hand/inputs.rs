@@ -1,6 +1,6 @@
 //! The paper's cases as inputs of the program.
 
-use super::{old_worked_file, CASE_B, CASE_B_UPDATE, CASE_D, WORKED_FILE};
+use super::{old_worked_file, CASE_A, CASE_B, CASE_B_UPDATE, CASE_D, WORKED_FILE};
 use crate::inputs::{hold, on_input, plain_answer, Programs};
 use crate::opening::Opening;
 use crate::text::{bytes_of, clock_line, Line, ALL_ONES};
@@ -48,6 +48,7 @@ fn program_cases() -> Vec<(Vec<u8>, &'static str)> {
     ];
     cases.extend(update_cases());
     cases.extend(head_cases());
+    cases.extend(cases_with_a_distance());
     cases
 }
 
@@ -63,6 +64,27 @@ fn update_cases() -> Vec<(Vec<u8>, &'static str)> {
         (asked(0, &old), "nothing needed"),
         (asked(18_001, &old), "complete 10000/10000 100%"),
         (asked(20_001, &old), "lacking 20000 9999/10000 99%"),
+    ]
+}
+
+/// Case A with a third S line that does not join: how far it is off stands behind the line.
+fn cases_with_a_distance() -> Vec<(Vec<u8>, &'static str)> {
+    let third = |t, d, r| {
+        let s = |t, d, r| Line::S { t, d, r };
+        let lines = [s(111, 40, 0), s(ALL_ONES, 10, 0), s(t, d, r), Line::End(3)];
+        let mut file = vec![Line::Head(CASE_A)];
+        file.extend(lines);
+        asked(0, &file)
+    };
+    vec![
+        (third(170, 10, 0), "refused 4 line 4 by 9"),
+        (third(170, 10, -1), "refused 4 line 4 by 9"),
+        (third(160, 10, 0), "refused 5 line 4 by 1"),
+        (third(170, 0, 0), "refused 3 line 4"),
+        (
+            third(ALL_ONES - 1, 10, 0),
+            "refused 4 line 4 by 18446744073709551453",
+        ),
     ]
 }
 

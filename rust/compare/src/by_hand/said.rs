@@ -27,13 +27,26 @@ pub fn refused(number: u32) -> Said {
 
 /// Accepted, with these words in `out`.
 pub fn out(words: &[u64]) -> Said {
-    Said {
-        out: Some(words.to_vec()),
-        ..Said::default()
-    }
+    accepted().told(words)
+}
+
+/// A start so many ticks after the next tick.
+pub fn gap(ticks: u64) -> Said {
+    refused(4).told(&[ticks])
+}
+
+/// A start so many ticks before the next tick.
+pub fn overlap(ticks: u64) -> Said {
+    refused(5).told(&[ticks])
 }
 
 impl Said {
+    /// And these words in `out`.
+    pub fn told(mut self, words: &[u64]) -> Said {
+        self.out = Some(words.to_vec());
+        self
+    }
+
     /// And this word of the record.
     pub fn record(mut self, at: usize, word: u64) -> Said {
         self.record.push((at, word));

@@ -17,7 +17,7 @@ pub fn start(generator: &mut Generator, state: &State) -> u64 {
         2 => next.wrapping_add((1 << 31) - 1),
         3 => next.wrapping_add(1 << 31),
         4 => next.wrapping_add(1 << 32),
-        5 => next.wrapping_sub(1 << 32),
+        5 => next.wrapping_sub(generator.pick(&[1 << 32, (1 << 31) - 1])),
         6 => generator.of_any_size(),
         7 => generator.pick(&[0, limits::TICK, limits::TICK + 1, u64::MAX]),
         _ => next,

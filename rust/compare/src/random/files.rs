@@ -243,9 +243,13 @@ fn spoil(generator: &mut Generator, state: &State, flaw: Flaw, fields: &mut Fiel
     match flaw {
         Flaw::ZeroDuration => fields.d = 0,
         Flaw::Gap => fields.t = next.saturating_add(generator.between(1, 3)),
-        Flaw::Overlap => fields.t = next.saturating_sub(generator.between(1, 3)),
+        Flaw::Overlap => {
+            let back = generator.pick(&[1, 1, 2, 3, 1 << 32]);
+            fields.t = next.saturating_sub(back);
+        }
         Flaw::FarStart => {
-            fields.t = generator.pick(&[limits::TICK, limits::TICK + 1, ALL_ONES - 1, 1 << 63]);
+            let far = [0, limits::TICK, limits::TICK + 1, ALL_ONES - 1, 1 << 63];
+            fields.t = generator.pick(&far);
         }
         Flaw::PastTickLimit => {
             if to_tick_limit(fields.d) >= limits::ACCEPTED {

@@ -72,6 +72,24 @@ fn a_program_that_counts_lines_from_0_and_its_report_is_short() {
 }
 
 #[test]
+fn a_program_that_tells_no_distance() {
+    let wrong = |input: &[u8]| {
+        let answer = plain_answer(input);
+        wrote(&match answer.split_once(" by ") {
+            Some((refused, _)) => format!("{}\n", refused),
+            None => answer,
+        })
+    };
+    assert!(first_report(wrong).is_some());
+}
+
+#[test]
+fn a_program_that_tells_a_distance_of_0() {
+    let wrong = |input: &[u8]| wrote(&plain_answer(input).replace(" line 3\n", " line 3 by 0\n"));
+    assert!(first_report(wrong).is_some());
+}
+
+#[test]
 fn a_program_that_takes_a_carriage_return() {
     let wrong = |input: &[u8]| {
         let without: Vec<u8> = input

@@ -3,6 +3,7 @@
 use crate::kinds::meet_input;
 use crate::lines::{head_of, refused_line};
 use crate::tally::Tally;
+use crate::text::clock_line;
 
 const HEAD: &str =
     "05000003e80000000000000000000000000000000000000000000000000000000000002710000000030000000000000000\n";
@@ -74,6 +75,26 @@ fn a_head_on_the_clock_line() {
     }
     assert_eq!(tally.never_met(), [""; 0]);
     assert_eq!(tally.surprises(), [""; 0]);
+}
+
+#[test]
+fn distances_of_the_program() {
+    let answer = |answer: &str| {
+        let mut tally = Tally::default();
+        tally.announce("desk refused", &["4 S", "5 S", "16 S"]);
+        tally.announce("desk off by", &["4 by 1", "5 by 2^32 or more"]);
+        let input = [&clock_line(0), HEAD.as_bytes(), S.as_bytes(), S.as_bytes()].concat();
+        meet_input(&mut tally, &input, answer);
+        tally.surprises()
+    };
+    assert_eq!(answer("refused 4 line 3 by 1"), [""; 0]);
+    assert_eq!(answer("refused 5 line 3 by 4294967296"), [""; 0]);
+    assert_eq!(answer("refused 16 line 3"), [""; 0]);
+    let none = "desk refused: refused 4 line 3";
+    assert_eq!(answer("refused 4 line 3"), [none]);
+    assert_eq!(answer("refused 4 line 3 by 0"), ["desk off by: 4 by 0"]);
+    let other = "desk off by: 16 by 1";
+    assert_eq!(answer("refused 16 line 3 by 1"), [other]);
 }
 
 #[test]

@@ -3,7 +3,7 @@
 use flonterri::words::word;
 
 use crate::calls::random_calls;
-use crate::face::{Face, Faces, PLAIN};
+use crate::face::{Append, AppendStamp, Face, Faces, Read, PLAIN};
 use crate::generator::Generator;
 use crate::opening::Opening;
 use crate::sequence::Sequence;
@@ -39,6 +39,14 @@ fn found(planted: Face, difference: &str) {
     assert!(report.contains("again with --seed 1 --from "), "{}", report);
 }
 
+/// A side that appends so by stamp, and is right besides.
+fn stamping(append_stamp: AppendStamp) -> Face {
+    Face {
+        append_stamp,
+        ..PLAIN
+    }
+}
+
 #[test]
 fn plain_does_not_differ_from_itself() {
     assert!(run(PLAIN).is_ok());
@@ -71,8 +79,8 @@ fn a_refused_opening_that_leaves_the_record() {
 
 #[test]
 fn an_append_that_makes_up_what_it_accepted() {
-    let append = |record: &mut [u64], table: &mut [u64], start, duration, count| {
-        let number = (PLAIN.append)(record, table, start, duration, count);
+    let append: Append = |record, table, start, duration, count, out| {
+        let number = (PLAIN.append)(record, table, start, duration, count, out);
         if number == 0 && record[word::DROPPED] > 0 {
             record[word::ACCEPTED] += 1;
         }
@@ -83,8 +91,8 @@ fn an_append_that_makes_up_what_it_accepted() {
 
 #[test]
 fn an_append_that_changes_the_table_when_refused() {
-    let append = |record: &mut [u64], table: &mut [u64], start, duration, count| {
-        let number = (PLAIN.append)(record, table, start, duration, count);
+    let append: Append = |record, table, start, duration, count, out| {
+        let number = (PLAIN.append)(record, table, start, duration, count, out);
         if number == 9 && !table.is_empty() {
             let last = table.len() - 1;
             table[last] += 1;
@@ -96,20 +104,80 @@ fn an_append_that_changes_the_table_when_refused() {
 
 #[test]
 fn a_stamp_for_which_half_the_circle_is_a_gap() {
-    let append_stamp = |record: &mut [u64], table: &mut [u64], stamp: u32, duration, count| {
+    let append_stamp: AppendStamp = |record, table, stamp, duration, count, out| {
         let next = record.get(word::NEXT_TICK).copied().unwrap_or(0) as u32;
-        match (PLAIN.append_stamp)(record, table, stamp, duration, count) {
+        match (PLAIN.append_stamp)(record, table, stamp, duration, count, out) {
             5 if stamp.wrapping_sub(next) == 1 << 31 => 4,
             number => number,
         }
     };
-    found(
-        Face {
-            append_stamp,
-            ..PLAIN
-        },
-        "number: 4 and 5",
-    );
+    found(stamping(append_stamp), "number: 4 and 5");
+}
+
+#[test]
+fn a_distance_in_the_other_direction() {
+    let append: Append = |record, table, start, duration, count, out| {
+        let number = (PLAIN.append)(record, table, start, duration, count, out);
+        if let (4 | 5, [distance]) = (number, out) {
+            *distance = distance.wrapping_neg();
+        }
+        number
+    };
+    found(Face { append, ..PLAIN }, "out word 0");
+}
+
+#[test]
+fn a_distance_of_a_stamp_that_is_taken_for_a_full_tick() {
+    let append_stamp: AppendStamp = |record, table, stamp, duration, count, out| {
+        let number = (PLAIN.append_stamp)(record, table, stamp, duration, count, out);
+        if let (4 | 5, [distance]) = (number, out) {
+            *distance = record[word::NEXT_TICK].abs_diff(u64::from(stamp));
+        }
+        number
+    };
+    found(stamping(append_stamp), "out word 0");
+}
+
+#[test]
+fn a_distance_told_where_there_is_none() {
+    let append: Append = |record, table, start, duration, count, out| {
+        let number = (PLAIN.append)(record, table, start, duration, count, out);
+        if let (3, [distance]) = (number, out) {
+            *distance = 0;
+        }
+        number
+    };
+    found(Face { append, ..PLAIN }, "out word 0: 0 and 5555");
+}
+
+#[test]
+fn an_append_that_takes_an_out_of_any_length() {
+    let append_stamp: AppendStamp = |record, table, stamp, duration, count, _| {
+        (PLAIN.append_stamp)(record, table, stamp, duration, count, &mut [0])
+    };
+    assert!(run(stamping(append_stamp)).is_err());
+}
+
+/// The bytes of a file without one of its lines, counted from 1.
+fn without_line(bytes: &[u8], line: u64) -> Vec<u8> {
+    let lines = (1..).zip(bytes.split_inclusive(|byte| *byte == b'\n'));
+    let others = lines.filter(|(at, _)| *at != line);
+    others.flat_map(|(_, text)| text.to_vec()).collect()
+}
+
+#[test]
+fn a_reading_that_tells_the_distance_of_another_line() {
+    let read: Read = |bytes, record, table, out| {
+        let number = (PLAIN.read)(bytes, record, table, out);
+        if let (4 | 5, [line, distance]) = (number, out) {
+            let mut other = [0; 2];
+            let rest = without_line(bytes, *line);
+            (PLAIN.read)(&rest, &mut record.to_vec(), &mut table.to_vec(), &mut other);
+            *distance = if other[1] == 0 { *distance } else { other[1] };
+        }
+        number
+    };
+    found(Face { read, ..PLAIN }, "out word 1");
 }
 
 #[test]

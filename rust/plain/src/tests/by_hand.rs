@@ -39,8 +39,11 @@ const OLD_WORKED_FILE: &str = "\
 fn a_next_tick_and_gap() {
     let mut lent = case_a();
     assert_eq!(lent.record[NEXT_TICK], 161);
-    assert_eq!(lent.append(170, 10, 1), 4);
-    assert_eq!(lent.append(161, 10, 1), 0);
+    assert_eq!(lent.append_by(170, 10, 1), (4, 9));
+    assert_eq!(lent.append_by(160, 10, 1), (5, 1));
+    assert_eq!(lent.append_by(0, 10, 1), (5, 161));
+    assert_eq!(lent.append_by(161, 10, 1), (0, 0));
+    assert_eq!(lent.append_by(170, 10, 1), (5, 1));
 }
 
 #[test]
@@ -190,13 +193,14 @@ fn the_window_opens_before_the_period_start() {
 fn c_stamps() {
     let opened = Lent::opened(OPEN_ENDED, 4_294_970_000, 30);
     for (stamp, answer) in [
-        (2704, 0),
-        (2705, 4),
-        (2703, 5),
-        (2_147_486_351, 4),
-        (2_147_486_352, 5),
+        (2704, (0, 0)),
+        (2705, (4, 1)),
+        (2703, (5, 1)),
+        (2_147_486_351, (4, 2_147_483_647)),
+        (2_147_486_352, (5, 2_147_483_648)),
+        (2_147_486_353, (5, 2_147_483_647)),
     ] {
-        assert_eq!(opened.clone().append_stamp(stamp, 1, 1), answer);
+        assert_eq!(opened.clone().append_stamp_by(stamp, 1, 1), answer);
     }
 }
 

@@ -118,10 +118,24 @@ fn the_verdict_is_judged_after_the_file() {
 
 #[test]
 fn each_refusal_of_a_file() {
-    for (text, (number, line)) in refused_files() {
-        let answer = format!("refused {} line {}\n", number, line);
+    for (text, ((number, line), distance)) in refused_files() {
+        let by = match distance {
+            0 => String::new(),
+            distance => format!(" by {}", distance),
+        };
+        let answer = format!("refused {} line {}{}\n", number, line, by);
         assert_eq!(ask(0, &text), answer);
     }
+}
+
+#[test]
+fn a_hole_and_how_big_it_is() {
+    let behind_a = |t| file(CASE_A, &[(111, 40, 0), (ABSENT, 10, 0), (t, 10, 0)]);
+    assert_eq!(ask(0, &behind_a(170)), "refused 4 line 4 by 9\n");
+    assert_eq!(ask(0, &behind_a(160)), "refused 5 line 4 by 1\n");
+    assert_eq!(ask(WHOLE, &behind_a(0)), "refused 5 line 4 by 161\n");
+    let far = file(OPEN_ENDED, &[(0, 1, 0), (ABSENT - 1, 1, 0)]);
+    assert_eq!(ask(0, &far), "refused 4 line 3 by 18446744073709551613\n");
 }
 
 #[test]

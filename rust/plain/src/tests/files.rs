@@ -340,7 +340,7 @@ fn random_s_lines(generator: &mut Generator, head: HeadFields) -> Vec<(u64, u32,
 
 #[test]
 fn random_files_are_openings_plus_appends() {
-    let mut accepted = 0;
+    let (mut accepted, mut far) = (0, 0);
     for seed in 0..1_500 {
         let mut generator = Generator::new(600_000 + seed);
         let head = random_head(&mut generator);
@@ -354,22 +354,26 @@ fn random_files_are_openings_plus_appends() {
                 ABSENT => expected.record[NEXT_TICK],
                 t => t,
             };
-            let answer = expected.append(start, *d, *r as u32 + 1);
+            let (answer, distance) = expected.append_by(start, *d, *r as u32 + 1);
             if answer != 0 {
-                refusal = Some((answer, at as u64 + 2));
+                refusal = Some(((answer, at as u64 + 2), distance));
                 break;
             }
         }
-        let found = read_into(words, &file(head, &lines));
+        let mut found = Lent::anything(words);
+        let outcome = found.read_by(file(head, &lines).as_bytes());
         match refusal {
-            Some(refusal) => assert_eq!(found, Err(refusal)),
+            Some(refusal) => {
+                assert_eq!(outcome, Err(refusal));
+                far += usize::from(refusal.1 != 0);
+            }
             None => {
-                assert_eq!(found, Ok(expected));
+                assert_eq!((outcome, found), (Ok(()), expected));
                 accepted += 1;
             }
         }
     }
-    assert!(accepted > 100);
+    assert!(accepted > 100 && far > 100, "{} {}", accepted, far);
 }
 
 #[test]

@@ -123,8 +123,70 @@ fn an_end_does_not_wrap() {
 #[test]
 fn a_start_over_the_limit_is_4() {
     let mut lent = Lent::opened(OPEN_ENDED, Tick::MAX, 30);
-    assert_eq!(lent.append(Tick::MAX + 1, 1, 1), 4);
-    assert_eq!(lent.append(u64::MAX, 1, 1), 4);
+    assert_eq!(lent.append_by(Tick::MAX + 1, 1, 1), (4, 1));
+    assert_eq!(
+        lent.append_by(u64::MAX, 1, 1),
+        (4, 18_442_240_474_082_181_120)
+    );
+}
+
+#[test]
+fn distances_of_full_ticks_are_not_cut() {
+    let opened = Lent::opened(OPEN_ENDED, 0, 30);
+    let mut one = opened.clone();
+    assert_eq!(one.append_by(0, 1, 1), (0, 0));
+    assert_eq!(
+        one.append_by(u64::MAX - 1, 1, 1),
+        (4, 18_446_744_073_709_551_613)
+    );
+    for distance in [1, 1 << 31, 1 << 32, 1 << 52, 1 << 63, u64::MAX] {
+        assert_eq!(opened.clone().append_by(distance, 1, 1), (4, distance));
+    }
+    let mut top = Lent::opened(OPEN_ENDED, Tick::MAX, 30);
+    for distance in [1, 1 << 31, 1 << 32, Tick::MAX] {
+        assert_eq!(top.append_by(Tick::MAX - distance, 1, 1), (5, distance));
+    }
+}
+
+#[test]
+fn a_full_tick_and_its_stamp_tell_the_same_within_half_a_circle() {
+    const HALF: u64 = 1 << 31;
+    for next_tick in [HALF, 1 << 32, (1 << 40) + 12_345, Tick::MAX] {
+        let mut lent = Lent::opened(OPEN_ENDED, next_tick, 30);
+        for start in [
+            next_tick - HALF,
+            next_tick - HALF + 1,
+            next_tick - 1,
+            next_tick + 1,
+            next_tick + HALF - 1,
+        ] {
+            let by_tick = lent.append_by(start, 1, 1);
+            assert_eq!(lent.append_stamp_by(start as u32, 1, 1), by_tick);
+        }
+        // Half a circle after the next tick a stamp lies before it.
+        assert_eq!(lent.append_by(next_tick + HALF, 1, 1), (4, HALF));
+        let stamp = (next_tick + HALF) as u32;
+        assert_eq!(lent.append_stamp_by(stamp, 1, 1), (5, HALF));
+    }
+}
+
+#[test]
+fn the_half_circle_of_a_stamp() {
+    // With the next tick at 0 an overlap names no tick at all, and has its distance all the same.
+    for next_tick in [0, 7, 1 << 31, (1 << 32) - 1, 1 << 32, Tick::MAX] {
+        let mut lent = Lent::opened(OPEN_ENDED, next_tick, 30);
+        for (step, answer) in [
+            (1, (4, 1)),
+            ((1 << 31) - 1, (4, (1 << 31) - 1)),
+            (1 << 31, (5, 1 << 31)),
+            ((1 << 31) + 1, (5, (1 << 31) - 1)),
+            ((1 << 32) - 1, (5, 1)),
+        ] {
+            let stamp = (next_tick + step) as u32;
+            assert_eq!(lent.append_stamp_by(stamp, 1, 1), answer);
+        }
+        assert_eq!(lent.append_stamp_by(next_tick as u32, 0, 1), (3, 0));
+    }
 }
 
 #[test]

@@ -32,10 +32,10 @@ fn agreement_comes_before_all_else() {
 #[test]
 fn an_append_is_3_before_4_and_5() {
     let mut lent = case_b();
-    assert_eq!(lent.append(u64::MAX, 0, 1), 3);
-    assert_eq!(lent.append(0, 1, 0), 3);
-    assert_eq!(lent.append_stamp(20_001, 0, 1), 3);
-    assert_eq!(lent.append_stamp(0, 1, 0), 3);
+    assert_eq!(lent.append_by(u64::MAX, 0, 1), (3, 0));
+    assert_eq!(lent.append_by(0, 1, 0), (3, 0));
+    assert_eq!(lent.append_stamp_by(20_001, 0, 1), (3, 0));
+    assert_eq!(lent.append_stamp_by(0, 1, 0), (3, 0));
 }
 
 #[test]
@@ -139,8 +139,10 @@ fn a_negative_r_is_3_before_4_5_and_18() {
 
 #[test]
 fn a_negative_r_is_4_or_5_before_18() {
-    assert_eq!(refused(&file(OPEN_ENDED, &[(0, 1, 0), (5, 1, -1)])), (4, 3));
-    assert_eq!(refused(&file(OPEN_ENDED, &[(0, 1, 0), (0, 1, -1)])), (5, 3));
+    for (t, refusal) in [(5, ((4, 3), 4)), (0, ((5, 3), 1)), (1, ((18, 3), 0))] {
+        let text = file(OPEN_ENDED, &[(0, 1, 0), (t, 1, -1)]);
+        assert_eq!(refused_by(&text), refusal);
+    }
 }
 
 #[test]

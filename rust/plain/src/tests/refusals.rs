@@ -175,7 +175,7 @@ fn write() {
 #[test]
 fn read() {
     for (text, refusal) in refused_files() {
-        assert_eq!(refused(&text), refusal);
+        assert_eq!(refused_by(&text), refusal);
     }
     let eleven: Vec<_> = (1..=11).map(|d| (ABSENT, d, 0)).collect();
     assert_eq!(refused(&file(SHORT, &eleven)), (9, 12));
@@ -191,8 +191,11 @@ fn a_record_of_another_length_is_2_and_changes_nothing() {
         let mut bytes = [b'#'; 200];
         let opened = face::open(&mut record, &mut table, 0, 0, 0, 0, 0, 0, 0, 0);
         assert_eq!(opened, 2);
-        assert_eq!(face::append(&mut record, &mut table, 0, 0, 0), 2);
-        assert_eq!(face::append_stamp(&mut record, &mut table, 0, 0, 0), 2);
+        for length in [0, 1, 2] {
+            let out = &mut out[..length];
+            assert_eq!(face::append(&mut record, &mut table, 0, 0, 0, out), 2);
+            assert_eq!(face::append_stamp(&mut record, &mut table, 0, 0, 0, out), 2);
+        }
         assert_eq!(face::trim(&mut record, &mut table, u64::MAX), 2);
         assert_eq!(face::verdict(&record, &table, u64::MAX, &mut out), 2);
         assert_eq!(face::verdict(&record, &table, 0, &mut out[..4]), 2);
@@ -205,7 +208,7 @@ fn a_record_of_another_length_is_2_and_changes_nothing() {
         assert_eq!(face::covered_edge(&record, &table, &mut out[..2]), 2);
         assert_eq!(face::full_tick(&record, &table, 0, &mut out[..2]), 2);
         assert_eq!(face::touching(&record, &table, 1, 0, &mut out[..2]), 2);
-        assert_eq!(face::read(b"", &mut record, &mut table, &mut out[..1]), 2);
+        assert_eq!(face::read(b"", &mut record, &mut table, &mut out[..2]), 2);
         assert_eq!(face::read(b"", &mut record, &mut table, &mut []), 2);
         assert_eq!(face::write(&record, &table, &mut bytes, &mut out[..1]), 2);
         assert_eq!(record, vec![7; words]);
@@ -239,11 +242,16 @@ fn an_out_of_another_length_is_15_before_agreement() {
             assert_eq!(face::touching(&record, &table, 1, 0, out), 15);
             assert_eq!(face::covered_edge(&record, &table, out), 15);
             assert_eq!(face::full_tick(&record, &table, 0, out), 15);
+            assert_eq!(face::read(b"", &mut record, &mut table, out), 15);
         }
         for words in (0..8).filter(|words| *words != 1) {
             let out = &mut out[..words];
             assert_eq!(face::available_at(&record, &table, 0, u64::MAX, out), 15);
-            assert_eq!(face::read(b"", &mut record, &mut table, out), 15);
+            assert_eq!(face::append(&mut record, &mut table, 9, 0, 1, out), 15);
+            assert_eq!(
+                face::append_stamp(&mut record, &mut table, 9, 1, 1, out),
+                15
+            );
             assert_eq!(face::write(&record, &table, &mut bytes, out), 15);
         }
         assert_eq!(Lent { record, table }, lent);

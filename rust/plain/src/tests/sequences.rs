@@ -129,14 +129,12 @@ impl Model {
         Lent { record, table }
     }
 
-    fn append(&mut self, start: u64, duration: u32, count: u32) -> u32 {
+    fn append(&mut self, start: u64, duration: u32, count: u32) -> By {
         if duration == 0 || count == 0 {
-            return 3;
+            return (3, 0);
         }
-        match i128::from(start).cmp(&self.next_tick) {
-            std::cmp::Ordering::Greater => return 4,
-            std::cmp::Ordering::Less => return 5,
-            std::cmp::Ordering::Equal => {}
+        if i128::from(start) != self.next_tick {
+            return self.off_by(i128::from(start));
         }
         let duration = i128::from(duration);
         let added: Vec<Ticks> = (0..i128::from(count))
@@ -144,41 +142,52 @@ impl Model {
             .map(|start| (start, start + duration))
             .collect();
         if added.iter().any(|reference| reference.1 >= 1 << 52) {
-            return 6;
+            return (6, 0);
         }
         let total = (self.accepted.len() + added.len()) as i128;
         if total > 1 << 31 || self.literal.first_number + total > (1 << 32) - 1 {
-            return 7;
+            return (7, 0);
         }
         let starts_past = |reference: &Ticks| match self.literal.period_end() {
             Some(end) => self.literal.place(reference.0) >= end,
             None => false,
         };
         if added.iter().any(starts_past) {
-            return 8;
+            return (8, 0);
         }
         let mut after = self.clone();
         after.accepted.extend(&added);
         after.next_tick = added[added.len() - 1].1;
         if after.runs().len() > self.words / 3 {
-            return 9;
+            return (9, 0);
         }
         *self = after;
-        0
+        (0, 0)
     }
 
-    fn append_stamp(&mut self, stamp: u32, duration: u32, count: u32) -> u32 {
+    fn append_stamp(&mut self, stamp: u32, duration: u32, count: u32) -> By {
         // The full ticks with this stamp, 2^32 apart: the one less than 2^31 above the next tick,
         // or at most 2^31 below it.
         let mut start = i128::from(stamp);
         while start < self.next_tick - (1 << 31) {
             start += 1 << 32;
         }
-        if start >= self.next_tick + (1 << 31) {
-            // Only where the next tick is low: the same stamp one turn earlier, below tick 0.
-            return if duration == 0 || count == 0 { 3 } else { 5 };
+        if start < self.next_tick + (1 << 31) {
+            return self.append(start as u64, duration, count);
         }
-        self.append(start as u64, duration, count)
+        // Only where the next tick is low: the same stamp one turn earlier, below tick 0.
+        match (duration, count) {
+            (0, _) | (_, 0) => (3, 0),
+            _ => self.off_by(start - (1 << 32)),
+        }
+    }
+
+    /// A gap or an overlap, and by how much.
+    fn off_by(&self, start: i128) -> By {
+        match start - self.next_tick {
+            past @ 1.. => (4, past as u64),
+            before => (5, -before as u64),
+        }
     }
 
     fn trim(&mut self, clock: u64) -> u32 {
@@ -321,10 +330,10 @@ fn append(generator: &mut Generator, lent: &mut Lent, model: &mut Model) {
     if generator.one_in(3) {
         let stamp = start as u32;
         let expected = model.append_stamp(stamp, duration, count);
-        assert_eq!(lent.append_stamp(stamp, duration, count), expected);
+        assert_eq!(lent.append_stamp_by(stamp, duration, count), expected);
     } else {
         let expected = model.append(start, duration, count);
-        assert_eq!(lent.append(start, duration, count), expected);
+        assert_eq!(lent.append_by(start, duration, count), expected);
     }
 }
 

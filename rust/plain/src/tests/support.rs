@@ -111,11 +111,26 @@ impl Lent {
     }
 
     pub fn append(&mut self, start: u64, duration: u32, count: u32) -> u32 {
-        self.change(|record, table| face::append(record, table, start, duration, count))
+        self.append_by(start, duration, count).0
     }
 
     pub fn append_stamp(&mut self, stamp: u32, duration: u32, count: u32) -> u32 {
-        self.change(|record, table| face::append_stamp(record, table, stamp, duration, count))
+        self.append_stamp_by(stamp, duration, count).0
+    }
+
+    /// The number of an append with the distance that it tells, 0 where it tells none.
+    pub fn append_by(&mut self, start: u64, duration: u32, count: u32) -> By {
+        told(|out| {
+            self.change(|record, table| face::append(record, table, start, duration, count, out))
+        })
+    }
+
+    pub fn append_stamp_by(&mut self, stamp: u32, duration: u32, count: u32) -> By {
+        told(|out| {
+            self.change(|record, table| {
+                face::append_stamp(record, table, stamp, duration, count, out)
+            })
+        })
     }
 
     /// An append that joins, whatever the next tick.
@@ -200,16 +215,48 @@ impl Lent {
 
     /// Reads a file; a refusal comes with its line.
     pub fn read(&mut self, bytes: &[u8]) -> Result<(), (u32, u64)> {
-        let mut out = [5555];
+        self.read_by(bytes).map_err(|refused| refused.0)
+    }
+
+    /// Reads a file; a refusal comes with its line and its distance.
+    pub fn read_by(&mut self, bytes: &[u8]) -> Result<(), LineBy> {
+        let mut out = [5555; 2];
         let answer = face::read(bytes, &mut self.record, &mut self.table, &mut out);
+        let [line, distance] = out;
         if answer == 0 {
-            assert_eq!(out, [0]);
+            assert_eq!(out, [0, 0]);
             return Ok(());
         }
         assert_eq!(self.record, vec![0; RECORD_WORDS]);
         assert!(self.table.iter().all(|word| *word == 0));
-        Err((answer, out[0]))
+        assert_eq!(distance != 0, has_distance(answer));
+        Err(((answer, line), distance))
     }
+}
+
+/// A number with its distance, 0 where it has none.
+pub type By = (u32, u64);
+
+/// A number and the refused line, with the distance.
+pub type LineBy = ((u32, u64), u64);
+
+/// The refusals that tell a distance: a gap and an overlap.
+fn has_distance(number: u32) -> bool {
+    number == 4 || number == 5
+}
+
+/// The number of an append with the distance in its `out`, which any answer but 4 and 5 leaves as it
+/// came.
+fn told(call: impl FnOnce(&mut [u64]) -> u32) -> By {
+    const BEFORE: u64 = 0xaaaa_aaaa_aaaa_aaaa;
+    let mut out = [BEFORE];
+    let number = call(&mut out);
+    if has_distance(number) {
+        assert!(out[0] != BEFORE && out[0] != 0);
+        return (number, out[0]);
+    }
+    assert_eq!(out, [BEFORE]);
+    (number, 0)
 }
 
 /// The answer of a call with an out: the words, or the refusal with the out as it came.
@@ -287,22 +334,53 @@ pub fn read_into(table_words: usize, text: &str) -> Result<Lent, (u32, u64)> {
     lent.read(text.as_bytes()).map(|()| lent)
 }
 
+/// The refusal, the line and the distance of a file in a table of 30 words.
+pub fn refused_by(text: &str) -> LineBy {
+    let outcome = Lent::anything(30).read_by(text.as_bytes());
+    outcome.expect_err("a file that is refused")
+}
+
 /// The refusal and the line of a file in a table of 30 words.
 pub fn refused(text: &str) -> (u32, u64) {
     read_into(30, text).expect_err("a file that is refused")
 }
 
 /// Files that the program's table refuses and a table of 30 words too, each with its refusal and
-/// its line.
-pub fn refused_files() -> Vec<(String, (u32, u64))> {
+/// its line, and its distance.
+pub fn refused_files() -> Vec<(String, LineBy)> {
+    let mut files = files_with_a_distance();
+    let others = files_without_a_distance().into_iter();
+    files.extend(others.map(|(text, refusal)| (text, (refusal, 0))));
+    files
+}
+
+/// Those that are a gap or an overlap.
+fn files_with_a_distance() -> Vec<(String, LineBy)> {
+    let behind_one = |t, r| file(OPEN_ENDED, &[(0, 1, 0), (t, 1, r)]);
+    vec![
+        (behind_one(2, 0), ((4, 3), 1)),
+        (behind_one(2, -1), ((4, 3), 1)),
+        (behind_one(Tick::MAX + 1, 0), ((4, 3), Tick::MAX)),
+        (behind_one(ABSENT - 1, 0), ((4, 3), ABSENT - 2)),
+        (behind_one(0, 0), ((5, 3), 1)),
+        (behind_one(0, -1), ((5, 3), 1)),
+        (
+            file(SHORT, &[(500, 7, 1), (ABSENT, 4, 0), (20, 1, 0)]),
+            ((5, 4), 498),
+        ),
+    ]
+}
+
+/// The others.
+fn files_without_a_distance() -> Vec<(String, (u32, u64))> {
     vec![
         (file(NO_TIMESCALE, &[(0, 1, 0)]), (1, 1)),
         (old_file(NO_TIMESCALE, &[(0, 1, 0)]), (1, 1)),
         (file(FAR_UPDATE, &[(0, 1, 0)]), (1, 1)),
         (file(SHORT, &[(Tick::MAX + 1, 1, 0)]), (1, 2)),
         (file(SHORT, &[(0, 0, 0)]), (3, 2)),
-        (file(SHORT, &[(0, 1, 0), (2, 1, 0)]), (4, 3)),
-        (file(SHORT, &[(0, 1, 0), (0, 1, 0)]), (5, 3)),
+        (file(SHORT, &[(0, 1, 0), (9, 0, 0)]), (3, 3)),
+        (file(SHORT, &[(0, 1, 0), (9, 0, -1)]), (3, 3)),
         (file(OPEN_ENDED, &[(Tick::MAX, 1, 0)]), (6, 2)),
         (file(NUMBERED, &[(0, 1, 0)]), (7, 2)),
         (file(SHORT, &[(1_000, 1, 0)]), (8, 2)),

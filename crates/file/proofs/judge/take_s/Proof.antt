@@ -61,19 +61,19 @@ returns-3 c =
 
 returns-4 : tie.Need-returns-4
 returns-4 c =
-    let told = c .before in
+    let told = c .before .before in
     let lasts = told .before .before .before in
     let made = lasts .before .before in
     let start = made .before .before in
-    s-gap (start .args .reading) _ (start .args .standing) (start .args .s) (start .pre) _ (made .new .ensures) _ (lasts .span .given .1) (told .enum-told3 .given .1) _ (c .refuse2 .ensures)
+    s-gap (start .args .reading) _ (start .args .standing) (start .args .s) (start .pre) _ (made .new .ensures) _ (lasts .span .given .1) _ (told .standing .given .1) _ (c .refuse2 .ensures)
 
 returns-5 : tie.Need-returns-5
 returns-5 c =
-    let told = c .before in
+    let told = c .before .before in
     let lasts = told .before .before .before in
     let made = lasts .before .before in
     let start = made .before .before in
-    s-overlap (start .args .reading) _ (start .args .standing) (start .args .s) (start .pre) _ (made .new .ensures) _ (lasts .span .given .1) (told .enum-told4 .given .1) _ (c .refuse3 .ensures)
+    s-overlap (start .args .reading) _ (start .args .standing) (start .args .s) (start .pre) _ (made .new .ensures) _ (lasts .span .given .1) _ (told .standing2 .given .1) _ (c .refuse3 .ensures)
 
 pub take-s-spec : {M : Type 1} → statement M
 take-s-spec =

@@ -1,30 +1,43 @@
--- `flonterri_append` meets its contract: refused for the record's length, or the append's own answer.
+-- `flonterri_append` meets its contract: refused for a length, or the append's own answer and its distance.
 use borrow.Author.Needs.{needs}
+use Rattle.units.specs.declared.Tick.{Tick}
+use Rattle.units.specs.declared.standing.Standing.{Standing}
 use Rattle.units.specs.Standing.{tickStanding}
-use Rattle.timeline.specs.Appending.{appendAnswer, appendTable}
 use Rattle.flonterri.specs.Face.{appends}
-use Rattle.flonterri.proofs.Lengths.{is-record}
-use Rattle.flonterri.proofs.Facing.{changes-nothing, changes-by}
+use Rattle.flonterri.proofs.Lengths.{first-right, second-right}
+use Rattle.flonterri.proofs.Facing.{leaves-nothing, append-number, append-words, append-table, append-out}
 use Rattle.flonterri.proofs.changing.flonterri_append.Statement.{statement}
 use Rattle.flonterri.proofs.changing.flonterri_append.Tie as tie
 
 returns : tie.Need-returns
 unfolding appends
 returns c =
-    let start = c .before .before .before .before in
-    changes-nothing (start .args .«record» .now) (start .args .table .now) _ (c .before .wrong-record .ensures) _ _ (c .if1 .taken)
+    let a = c .before .before .before .before .before .args in
+    leaves-nothing (a .«record» .now) (a .table .now) (a .out .now) 1 _ (c .before .wrong-length .ensures) _ _ _ _ (c .if1 .taken)
+
+give-appended-requires : tie.Need-give-appended-requires
+give-appended-requires c κs = (search (needs, first-right), search (needs, second-right))
 
 returns-2 : tie.Need-returns-2
 unfolding appends
 returns-2 c =
-    let gave = c .before .before in
-    let call = gave .before .before .before .before in
+    let gave = c .before .before .before .before in
+    let call = gave .before .before .before .before .before in
     let made = call .before .before in
     let test = made .before .before in
-    let start = test .before .before .before .before in
-    let ts = start .args .table .now in
-    changes-by (start .args .«record» .now) ts _ (test .before .wrong-record .ensures) (λ rec. appendAnswer rec ts (tickStanding (record { 0 = start .args .start }) (rec .next)) (start .args .duration) (start .args .count)) (λ rec. appendTable rec ts (tickStanding (record { 0 = start .args .start }) (rec .next)) (start .args .duration) (start .args .count)) (test .if1 .left) _ _ (made .record-of .ensures) _ _
-    (call .append .ensures .0) (call .append .ensures .1) _ _ (gave .give-back .ensures .0) (gave .give-back .ensures .1)
+    let a = test .before .before .before .before .before .args in
+    let ws = a .«record» .now in
+    let ts = a .table .now in
+    let out = a .out .now in
+    let st : Tick → Standing = tickStanding (record { 0 = a .start }) in
+    let d = a .duration in
+    let n = a .count in (
+      search (append-number ws ts out st d n, test, made, call, gave),
+      (
+        search (append-words ws ts out st d n, test, made, call, gave),
+        (search (append-table ws ts out st d n, test, made, call), search (append-out ws ts out st d n, test, made, call, gave)),
+      ),
+    )
 
 pub flonterri-append-spec : {M : Type 1} → statement M
 flonterri-append-spec =
@@ -32,9 +45,10 @@ flonterri-append-spec =
     (tie.spec
     (λ c κs. search needs)
     returns
-    (λ c κs. search (needs, is-record))
+    (λ c κs. search (needs, first-right))
     (λ c κs. search needs)
-    (λ c κs. search (needs, is-record))
+    give-appended-requires
+    (λ c. search needs)
     (λ c. search needs)
     (λ c. search needs)
     returns-2)

@@ -1,24 +1,43 @@
--- `flonterri_append_stamp` meets its contract: refused for the record's length, or the append's own answer.
+-- `flonterri_append_stamp` meets its contract: refused for a length, or the append's own answer and its distance.
 use borrow.Author.Needs.{needs}
+use Rattle.units.specs.declared.Tick.{Tick}
+use Rattle.units.specs.declared.standing.Standing.{Standing}
+use Rattle.units.specs.Standing.{stampStanding}
 use Rattle.flonterri.specs.Face.{appendsStamp}
-use Rattle.flonterri.proofs.Lengths.{is-record}
-use Rattle.flonterri.proofs.Facing.{changes-nothing, stamp-number, stamp-words, stamp-table}
+use Rattle.flonterri.proofs.Lengths.{first-right, second-right}
+use Rattle.flonterri.proofs.Facing.{leaves-nothing, append-number, append-words, append-table, append-out}
 use Rattle.flonterri.proofs.changing.flonterri_append_stamp.Statement.{statement}
 use Rattle.flonterri.proofs.changing.flonterri_append_stamp.Tie as tie
 
 returns : tie.Need-returns
 unfolding appendsStamp
 returns c =
-    let start = c .before .before .before .before in
-    changes-nothing (start .args .«record» .now) (start .args .table .now) _ (c .before .wrong-record .ensures) _ _ (c .if1 .taken)
+    let a = c .before .before .before .before .before .args in
+    leaves-nothing (a .«record» .now) (a .table .now) (a .out .now) 1 _ (c .before .wrong-length .ensures) _ _ _ _ (c .if1 .taken)
+
+give-appended-requires : tie.Need-give-appended-requires
+give-appended-requires c κs = (search (needs, first-right), search (needs, second-right))
 
 returns-2 : tie.Need-returns-2
+unfolding appendsStamp
 returns-2 c =
-    let gave = c .before .before in
-    let call = gave .before .before .before .before in
+    let gave = c .before .before .before .before in
+    let call = gave .before .before .before .before .before in
     let made = call .before .before in
     let test = made .before .before in
-    (search (stamp-number, test, made, call, gave), (search (stamp-words, test, made, call, gave), search (stamp-table, test, made, call)))
+    let a = test .before .before .before .before .before .args in
+    let ws = a .«record» .now in
+    let ts = a .table .now in
+    let out = a .out .now in
+    let st : Tick → Standing = stampStanding (record { 0 = a .stamp }) in
+    let d = a .duration in
+    let n = a .count in (
+      search (append-number ws ts out st d n, test, made, call, gave),
+      (
+        search (append-words ws ts out st d n, test, made, call, gave),
+        (search (append-table ws ts out st d n, test, made, call), search (append-out ws ts out st d n, test, made, call, gave)),
+      ),
+    )
 
 pub flonterri-append-stamp-spec : {M : Type 1} → statement M
 flonterri-append-stamp-spec =
@@ -26,9 +45,10 @@ flonterri-append-stamp-spec =
     (tie.spec
     (λ c κs. search needs)
     returns
-    (λ c κs. search (needs, is-record))
+    (λ c κs. search (needs, first-right))
     (λ c κs. search needs)
-    (λ c κs. search (needs, is-record))
+    give-appended-requires
+    (λ c. search needs)
     (λ c. search needs)
     (λ c. search needs)
     returns-2)

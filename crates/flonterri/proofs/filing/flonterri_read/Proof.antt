@@ -2,7 +2,7 @@
 use borrow.Author.Needs.{needs}
 use Rattle.flonterri.specs.Face.{reads}
 use Rattle.flonterri.proofs.Lengths.{first-right, second-right}
-use Rattle.flonterri.proofs.Facing.{reads-nothing, reads-by}
+use Rattle.flonterri.proofs.Facing.{leaves-nothing, reads-by}
 use Rattle.flonterri.proofs.filing.flonterri_read.Statement.{statement}
 use Rattle.flonterri.proofs.filing.flonterri_read.Tie as tie
 
@@ -10,7 +10,7 @@ returns : tie.Need-returns
 unfolding reads
 returns c =
     let a = c .before .before .before .before .before .before .args in
-    reads-nothing (a .«record» .now) (a .table .now) (a .out .now) _ (c .before .wrong-length .ensures) _ _ (c .if1 .taken)
+    leaves-nothing (a .«record» .now) (a .table .now) (a .out .now) 2 _ (c .before .wrong-length .ensures) _ _ _ _ (c .if1 .taken)
 
 give-read-requires : tie.Need-give-read-requires
 give-read-requires c κs =

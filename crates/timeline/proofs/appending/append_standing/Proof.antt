@@ -1,9 +1,9 @@
 -- `append_standing` meets its contract, case by case.
 use borrow.Author.Needs.{needs}
 use native.Mathlib.Nat.{pos-of-ne-zero}
-use Rattle.agreement.specs.declared.refusal.Refusal.the-variants.{NothingGiven, Gap, Overlap}
+use Rattle.agreement.specs.declared.refusal.Refusal.the-variants.{NothingGiven}
 use Rattle.keeping.proofs.Outcomes.{answer-refused, words-refused}
-use Rattle.timeline.proofs.Judged.{no-span, span-held, span-none, span-gap, span-overlap, span-answer, span-words}
+use Rattle.timeline.proofs.Judged.{no-span, span-held, span-none, span-gap, span-overlap, gap-words, overlap-words, span-answer, span-words}
 use Rattle.timeline.proofs.appending.append_standing.Statement.{statement}
 use Rattle.timeline.proofs.appending.append_standing.Tie as tie
 
@@ -26,5 +26,5 @@ append-standing-spec =
     (λ c κs. search needs)
     (λ c. search needs)
     (λ c. (search (needs, span-answer), search (needs, span-words)))
-    (λ c. (search (needs, answer-refused, span-gap), words-refused _ _ _ Gap (search (needs, span-gap))))
-    (λ c. (search (needs, answer-refused, span-overlap), words-refused _ _ _ Overlap (search (needs, span-overlap)))))
+    (λ c. (search (needs, answer-refused, span-gap), search (needs, gap-words)))
+    (λ c. (search (needs, answer-refused, span-overlap), search (needs, overlap-words))))

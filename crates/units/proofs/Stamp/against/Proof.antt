@@ -10,5 +10,7 @@ against-spec =
     (tie.spec
     (λ c κs. search needs)
     (λ c. search (needs, stamp-joins))
+    (λ c. search needs)
     (λ c. search (needs, stamp-gap))
+    (λ c. search needs)
     (λ c. search (needs, stamp-overlap)))

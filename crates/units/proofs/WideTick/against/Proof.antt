@@ -9,5 +9,6 @@ against-spec =
     tie.close
     (tie.spec
     (λ c. search (needs, tick-joins))
+    (λ c. search needs)
     (λ c. search (needs, tick-gap))
     (λ c. search (needs, tick-overlap)))
