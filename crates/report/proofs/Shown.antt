@@ -48,7 +48,7 @@ use Rattle.report.specs.declared.ClockLine.the-variants.{At, Whole}
 use Rattle.report.specs.Clock.{askedOn}
 use Rattle.report.specs.Answer.{askedIn, replyOn, replyIn, tableLength, answer}
 use Rattle.report.specs.Text.{decimalBy, decimal, distanceText, shareText, refusedText, verdictText, textOf}
-use Rattle.report.specs.Worked.{headLine, sLine, fileB, Lines}
+use Rattle.report.specs.Worked.{headLine, sLine, fileB, fileGap, Lines}
 
 -- ---- what is refused
 
@@ -67,6 +67,10 @@ over = refl
 unended : answer (ascii "0400000000000036b0" ++ 10 ∷ headLine ++ 10 ∷ sLine) ≡ ascii "refused 16 line 2" ++ 10 ∷ []
 unfolding replyIn replyOn hasFeed firstLine behindFirst askedIn askedOn frameOf frameAs fieldValues areDigits numberOf valueOf isDigit between ascii textOf refusedText distanceText decimal decimalBy readAnswer readOutcome readLines takeLines linesFrom restFrom takeLine onNothing takeHead
 unended = refl
+
+gap : answer (ascii "04ffffffffffffffff" ++ 10 ∷ fileGap) ≡ ascii "refused 4 line 3 by 9" ++ 10 ∷ []
+unfolding replyIn replyOn hasFeed firstLine behindFirst askedIn askedOn frameOf frameAs fieldValues areDigits numberOf valueOf isDigit between ascii textOf refusedText distanceText decimal decimalBy readAnswer readTable readOutcome readLines takeLines linesFrom restFrom takeLine onNothing takeHead onHeaded takeFirstS openOutcome takeS settledReading appendOutcome fitOutcome roomOutcome agrees unspent every push encode wordsOf tableOf wordsBy repeated runsOf referencesOf runsShaped zeros lastEnd place moment periodEnd lowEdge onOpen
+gap = refl
 
 -- ---- the file of case B, read into the program's table
 
@@ -156,6 +160,7 @@ lines =
           at-clock (ascii "040000000000004e21" ++ 10 ∷ fileB) refl (record { 0 = 20_001 }) refl (verdict.Lacking 10_000 9_999 (record { 0 = 20_000 }))
           lackingB;
       nothing = at-clock (ascii "040000000000000000" ++ 10 ∷ fileB) refl (record { 0 = 0 }) refl verdict.Nothing nothingB;
+      gap = gap;
       whole = of-period (ascii "04ffffffffffffffff" ++ 10 ∷ fileB) refl refl;
       over = over;
       unended = unended;
