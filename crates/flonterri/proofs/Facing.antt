@@ -110,35 +110,39 @@ module _ (ws ts out : List ℕ) (size r : ℕ) (e : r ≡ wrongLength (length ws
         (q ∙ ap (λ (t : Leaves). t .words) back, (v ∙ ap (λ (t : Leaves). t .table) back, w ∙ ap (λ (t : Leaves). t .out) back)),
       )
 
--- an append to the record that was made of words, one law a part: its proof names no call, so that another call in its place is refused for what it
--- answers
+-- an append to the record that was made of words
 module _ (ws ts out : List ℕ) (standing : Tick → Standing) (d n r : ℕ) (e : r ≡ wrongLength (length ws) (length out) 1) (z : r ≡ 0) (rec : Record)
     (m : rec ≡ recordOf ws) (x : Changed) (a : x ≡ appendAnswer rec ts (standing (rec .next)) d n) where
   abbrev seen : Leaves
   seen = appendsBy ws ts out (standing (recordOf ws .next)) d n
 
-  same : x ≡ appendAnswer (recordOf ws) ts (standing (recordOf ws .next)) d n
-  same = a ∙ ap (λ y. appendAnswer y ts (standing (y .next)) d n) m
-
-  appended : Left-to seen (outcomeNumber (x .outcome)) (wordsOf (x .rec)) (appendTable (recordOf ws) ts (standing (recordOf ws .next)) d n) (distanceOut (x .outcome) out)
-  appended =
+  pub appended :
+      (k : ℕ) (us new os : List ℕ)
+      → k ≡ outcomeNumber (x .outcome)
+      → us ≡ wordsOf (x .rec)
+      → new ≡ appendTable rec ts (standing (rec .next)) d n
+      → os ≡ distanceOut (x .outcome) out
+      → Left-to seen k us new os
+  appended k us new os p q v w =
+      let same : x ≡ appendAnswer (recordOf ws) ts (standing (recordOf ws .next)) d n = a ∙ ap (λ y. appendAnswer y ts (standing (y .next)) d n) m in
       leaves-by ws ts out 1 r e z _ _ _ _ _ _ _ _
-      (ap (λ y. outcomeNumber (y .outcome)) same)
-      (ap (λ y. wordsOf (y .rec)) same)
-      refl
-      (ap (λ y. distanceOut (y .outcome) out) same)
+      (p ∙ ap (λ y. outcomeNumber (y .outcome)) same)
+      (q ∙ ap (λ y. wordsOf (y .rec)) same)
+      (v ∙ ap (λ y. appendTable y ts (standing (y .next)) d n) m)
+      (w ∙ ap (λ y. distanceOut (y .outcome) out) same)
 
+  -- one law a part: their proofs name no call, so that another call in its place is refused for what it answers
   pub append-number : (k : ℕ) → k ≡ outcomeNumber (x .outcome) → k ≡ seen .number
-  append-number k p = p ∙ appended .0
+  append-number k p = appended k _ _ _ p refl refl refl .0
 
   pub append-words : (us : List ℕ) → us ≡ wordsOf (x .rec) → us ≡ seen .words
-  append-words us p = p ∙ appended .1 .0
+  append-words us p = appended _ us _ _ refl p refl refl .1 .0
 
   pub append-table : (new : List ℕ) → new ≡ appendTable rec ts (standing (rec .next)) d n → new ≡ seen .table
-  append-table new b = b ∙ ap (λ y. appendTable y ts (standing (y .next)) d n) m ∙ appended .1 .1 .0
+  append-table new b = appended _ _ new _ refl refl b refl .1 .1 .0
 
   pub append-out : (os : List ℕ) → os ≡ distanceOut (x .outcome) out → os ≡ seen .out
-  append-out os p = p ∙ appended .1 .1 .1
+  append-out os p = appended _ _ _ os refl refl refl p .1 .1 .1
 
 -- ---- the file
 

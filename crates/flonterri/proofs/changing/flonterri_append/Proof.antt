@@ -1,11 +1,9 @@
 -- `flonterri_append` meets its contract: refused for a length, or the append's own answer and its distance.
 use borrow.Author.Needs.{needs}
-use Rattle.units.specs.declared.Tick.{Tick}
-use Rattle.units.specs.declared.standing.Standing.{Standing}
 use Rattle.units.specs.Standing.{tickStanding}
 use Rattle.flonterri.specs.Face.{appends}
 use Rattle.flonterri.proofs.Lengths.{first-right, second-right}
-use Rattle.flonterri.proofs.Facing.{leaves-nothing, append-number, append-words, append-table, append-out}
+use Rattle.flonterri.proofs.Facing.{leaves-nothing, appended}
 use Rattle.flonterri.proofs.changing.flonterri_append.Statement.{statement}
 use Rattle.flonterri.proofs.changing.flonterri_append.Tie as tie
 
@@ -26,18 +24,11 @@ returns-2 c =
     let made = call .before .before in
     let test = made .before .before in
     let a = test .before .before .before .before .before .args in
-    let ws = a .«record» .now in
-    let ts = a .table .now in
-    let out = a .out .now in
-    let st : Tick → Standing = tickStanding (record { 0 = a .start }) in
-    let d = a .duration in
-    let n = a .count in (
-      search (append-number ws ts out st d n, test, made, call, gave),
-      (
-        search (append-words ws ts out st d n, test, made, call, gave),
-        (search (append-table ws ts out st d n, test, made, call), search (append-out ws ts out st d n, test, made, call, gave)),
-      ),
-    )
+    let law =
+    appended (a .«record» .now) (a .table .now) (a .out .now) (tickStanding (record { 0 = a .start })) (a .duration) (a .count) _
+    (test .before .wrong-length .ensures) (test .if1 .left) _ (made .record-of .ensures) _ (call .append .ensures .0)
+    in
+    law _ _ _ _ (gave .give-appended .ensures .0) (gave .give-appended .ensures .1 .0) (call .append .ensures .1) (gave .give-appended .ensures .1 .1)
 
 pub flonterri-append-spec : {M : Type 1} → statement M
 flonterri-append-spec =
