@@ -5,18 +5,17 @@ use mathlib.Core.Bool.{Bool, true, false, cond, _&&_}
 use mathlib.Core.List.{List, [], _++_, append-assoc, append-nil}
 use Prim.Native.Nat.{ℕ, _+_, _-_, _*_, _/_, _≤_, _<_}
 use native.Mathlib.Omega.{arith}
-use borrow.Author.Tests.{eqb-false, leb-true, le-leb}
+use borrow.Author.Tests.{eqb-false, le-leb}
 use lib.Dec.{eqb}
 use lib.IntN.{ℤ}
 use lib.ListN.{length, drop, replicate, length-append, replicate-append-replicate}
 use lib.Seq.{drop-at}
-use Rattle.units.specs.declared.WideMillis.{WideMillis}
 use Rattle.units.specs.declared.Stamp.{Stamp}
 use Rattle.units.specs.declared.full.Full.{Full}
 use Rattle.units.specs.declared.full.Full.the-variants as named
 use Rattle.units.specs.declared.standing.Standing.{Standing}
 use Rattle.units.specs.Full.{fullTick}
-use Rattle.units.specs.Limits.{largestSpan, largestMillis, largestNumber, clockHeld}
+use Rattle.units.specs.Limits.{largestSpan, largestMillis, largestNumber}
 use Rattle.units.specs.Standing.{tickStanding, stampStanding}
 use Rattle.runs.specs.Words.{runsOf, wordsOf as runWords, referencesOf}
 use Rattle.runs.specs.Encoding.{tableOf}
@@ -30,12 +29,15 @@ use Rattle.agreement.proofs.Agreeing.{agreeing, agree-shaped}
 use Rattle.agreement.proofs.Numbers.{refusal-some}
 use Rattle.keeping.specs.declared.Outcome.{Outcome}
 use Rattle.keeping.specs.declared.Outcome.the-variants as outcome
-use Rattle.keeping.specs.Keeping.{wordsKeeping, outcomeNumber, changedBy, wordsBy}
-use Rattle.keeping.specs.Append.{unspentOf, appended}
+use Rattle.keeping.specs.declared.Changed.{Changed}
+use Rattle.keeping.specs.Keeping.{outcomeNumber, changedBy, wordsBy}
+use Rattle.keeping.proofs.Outcomes.{outcome-beside, number-accepted}
 use Rattle.timeline.specs.Opening.{openOutcome}
-use Rattle.timeline.specs.Appending.{appendOutcome}
+use Rattle.timeline.specs.Appending.{appendOutcome, appendAnswer, appendTable}
 use Rattle.timeline.specs.Trimming.{trimOutcome}
-use Rattle.timeline.proofs.Kept.{open-agrees, trim-keeps, accepted-keeps}
+use Rattle.timeline.specs.Pair.{pairOutcome}
+use Rattle.timeline.proofs.Kept.{open-agrees, trim-passed, trim-keeps, taken, append-leaves}
+use Rattle.timeline.proofs.Pairs.{pair-passed, pair-leaves}
 use Rattle.lookups.specs.declared.Numbered.the-variants.{Missing}
 use Rattle.lookups.specs.declared.Availability.the-variants as availability
 use Rattle.lookups.specs.Available.{numbered, keptNumber, numberAvailability, availabilityIn, numberAvailable, availableIn}
@@ -52,7 +54,7 @@ use Rattle.file.specs.Judging.{readOutcome, readAnswer, answeredBy, readLines}
 use Rattle.file.proofs.Accepted.{read-agrees}
 use Rattle.flonterri.specs.Words.{recordWords, recordOf, wordsOf, headWith}
 use Rattle.flonterri.specs.Tells.{Tells, availabilityTells, touchingTells, availableTells, fullTickTells}
-use Rattle.flonterri.specs.Face.{wrongRecord, wrongLength, guarded, Changes, changes, opens, appendsBy, appends, appendsStamp, trims, tells, tellsTouching, tellsAvailability, Leaves, leaves, reads}
+use Rattle.flonterri.specs.Face.{wrongRecord, wrongLength, guarded, Changes, changes, opens, appendsBy, appends, appendsStamp, appendsTrim, trims, tells, tellsTouching, tellsAvailability, Leaves, leaves, reads}
 use Rattle.flonterri.specs.Face.{tellsAvailable, tellsFullTick}
 use Rattle.flonterri.specs.Binding.{agreed, LeavesAgreed, TellsAgreed, Binding}
 use Rattle.flonterri.proofs.Words.{record-words}
@@ -83,16 +85,6 @@ opening-agreed ws ts timescale offset start duration depth first update tick =
     let h = headWith timescale offset start duration depth first update in
     leaves-agreed ws ts _ _ _ (openOutcome h (record { 0 = tick })) (open-agrees h (record { 0 = tick }) (length ts))
 
--- what an accepted trim has passed: 2 and 10
-trim-passed : (rec : Record) (ws : List ℕ) (c : WideMillis) → trimOutcome rec ws c ≡ outcome.Accepted → (agrees rec ws ≡ true) × (c .0 ≤ largestMillis)
-unfolding trimOutcome
-trim-passed rec ws c o = go (agrees rec ws) (clockHeld c) refl o
-  where
-    go : (s t : Bool) → clockHeld c ≡ t → cond s (cond t outcome.Accepted (outcome.Refused refusal.ClockLimit)) (outcome.Refused refusal.Disagreement) ≡ outcome.Accepted → (s ≡ true) × (c .0 ≤ largestMillis)
-    go true true e o = (refl, leb-true (c .0) largestMillis e)
-    go true false e o = absurd (refusal-some refusal.ClockLimit (ap outcomeNumber o))
-    go false t e o = absurd (refusal-some refusal.Disagreement (ap outcomeNumber o))
-
 trim-agreed : (ws ts : List ℕ) (c : ℕ) → LeavesAgreed (trims ws ts c)
 unfolding trims
 trim-agreed ws ts c =
@@ -117,29 +109,34 @@ tells-agreed ws ts out size o rec new told k = go (eqb (wrongLength (length ws) 
     go true e z = ap (λ r. agrees r new) (record-words rec) ∙ k z
     go false e z = absurd (eqb-false (wrongLength (length ws) (length out) size) 0 e z)
 
-appends-agreed : (ws ts out : List ℕ) (st : Standing) (d n : ℕ) → d ≤ largestSpan → TellsAgreed (appendsBy ws ts out st d n)
-unfolding changedBy wordsBy
-appends-agreed ws ts out st d n small =
-    tells-agreed ws ts out 1 _ _ _ _ (go (appendOutcome (recordOf ws) ts st d n) (accepted-keeps (recordOf ws) ts st d n small))
-  where
-    new : Record
-    new = appended (recordOf ws) ts d n
+-- an append, by itself or with a trim behind it, whose answer and words agree where it is accepted
+appends-agreed : (ws ts out : List ℕ) (x : Changed) (new : List ℕ) → (x .outcome ≡ outcome.Accepted → agrees (x .rec) new ≡ true) → TellsAgreed (appendsBy ws ts out x new)
+appends-agreed ws ts out x new k = tells-agreed ws ts out 1 _ _ _ _ (λ z. k (number-accepted (x .outcome) z))
 
-    left : List ℕ
-    left = wordsKeeping ts (unspentOf (recordOf ws) ts d n)
-
-    go : (o : Outcome) → (o ≡ outcome.Accepted → agrees new left ≡ true) → outcomeNumber (changedBy o new (recordOf ws) .outcome) ≡ 0 →
-        agrees (changedBy o new (recordOf ws) .rec) (wordsBy o left ts) ≡ true
-    go outcome.Accepted k z = k refl
-    go (outcome.Refused why) k z = absurd (refusal-some why z)
+append-left : (ws ts out : List ℕ) (st : Standing) (d n : ℕ) → d ≤ largestSpan →
+    TellsAgreed (appendsBy ws ts out (appendAnswer (recordOf ws) ts st d n) (appendTable (recordOf ws) ts st d n))
+append-left ws ts out st d n small =
+    appends-agreed ws ts out _ _
+    (λ z. append-leaves (recordOf ws) ts st d n small
+    (taken (recordOf ws) ts st d n (sym (outcome-beside (appendOutcome (recordOf ws) ts st d n) _ _) ∙ z) .agreed))
 
 append-agreed : (ws ts out : List ℕ) (start d n : ℕ) → d ≤ largestSpan → TellsAgreed (appends ws ts out start d n)
 unfolding appends
-append-agreed ws ts out start d n small = appends-agreed ws ts out (tickStanding (record { 0 = start }) (recordOf ws .next)) d n small
+append-agreed ws ts out start d n small =
+    append-left ws ts out (tickStanding (record { 0 = start }) (recordOf ws .next)) d n small
 
 stamp-agreed : (ws ts out : List ℕ) (stamp d n : ℕ) → d ≤ largestSpan → TellsAgreed (appendsStamp ws ts out stamp d n)
 unfolding appendsStamp
-stamp-agreed ws ts out stamp d n small = appends-agreed ws ts out (stampStanding (record { 0 = stamp }) (recordOf ws .next)) d n small
+stamp-agreed ws ts out stamp d n small =
+    append-left ws ts out (stampStanding (record { 0 = stamp }) (recordOf ws .next)) d n small
+
+pair-agreed : (ws ts out : List ℕ) (stamp d n c : ℕ) → d ≤ largestSpan → TellsAgreed (appendsTrim ws ts out stamp d n c)
+unfolding appendsTrim
+pair-agreed ws ts out stamp d n c small =
+    let st = stampStanding (record { 0 = stamp }) (recordOf ws .next) in
+    appends-agreed ws ts out _ _
+    (λ z. pair-leaves (recordOf ws) ts st d n (record { 0 = c }) small
+    (pair-passed (recordOf ws) ts st d n (record { 0 = c }) (sym (outcome-beside (pairOutcome (recordOf ws) ts st d n (record { 0 = c })) _ _) ∙ z) .agreed))
 
 -- a reading whose number is 0 is accepted
 read-accepted : (o : Outcome) (r : Reading) → outcomeNumber (answeredBy o r .outcome) ≡ 0 → o ≡ outcome.Accepted
@@ -268,6 +265,7 @@ binding =
       opening = opening-agreed;
       append = append-agreed;
       append-stamp = stamp-agreed;
+      append-trim = pair-agreed;
       trim = trim-agreed;
       read = read-agreed;
       touching = touching-told;

@@ -4,13 +4,10 @@ use mathlib.Core.Path.{_≡_, refl, ap, _∙_}
 use mathlib.Core.List.{List, [], _∷_}
 use Prim.Native.Nat.{ℕ}
 use lib.ListN.{length, set}
-use Rattle.units.specs.declared.Tick.{Tick}
-use Rattle.units.specs.declared.standing.Standing.{Standing}
 use Rattle.agreement.specs.declared.Record.{Record}
 use Rattle.keeping.specs.declared.Changed.{Changed}
 use Rattle.keeping.specs.declared.Outcome.{Outcome}
 use Rattle.keeping.specs.Keeping.{outcomeNumber, outcomeDistance}
-use Rattle.timeline.specs.Appending.{appendAnswer, appendTable}
 use Rattle.file.specs.declared.ReadAnswer.{ReadAnswer}
 use Rattle.writing.specs.declared.WriteAnswer.{WriteAnswer}
 use Rattle.flonterri.specs.Words.{recordOf, wordsOf}
@@ -110,25 +107,25 @@ module _ (ws ts out : List ℕ) (size r : ℕ) (e : r ≡ wrongLength (length ws
         (q ∙ ap (λ (t : Leaves). t .words) back, (v ∙ ap (λ (t : Leaves). t .table) back, w ∙ ap (λ (t : Leaves). t .out) back)),
       )
 
--- an append to the record that was made of words
-module _ (ws ts out : List ℕ) (standing : Tick → Standing) (d n r : ℕ) (e : r ≡ wrongLength (length ws) (length out) 1) (z : r ≡ 0) (rec : Record)
-    (m : rec ≡ recordOf ws) (x : Changed) (a : x ≡ appendAnswer rec ts (standing (rec .next)) d n) where
+-- an append, by itself or with a trim behind it, to the record that was made of words: what it answers and which words it leaves
+module _ (ws ts out : List ℕ) (f : Record → Changed) (g : Record → List ℕ) (r : ℕ) (e : r ≡ wrongLength (length ws) (length out) 1) (z : r ≡ 0) (rec : Record)
+    (m : rec ≡ recordOf ws) (x : Changed) (a : x ≡ f rec) where
   abbrev seen : Leaves
-  seen = appendsBy ws ts out (standing (recordOf ws .next)) d n
+  seen = appendsBy ws ts out (f (recordOf ws)) (g (recordOf ws))
 
   pub appended :
       (k : ℕ) (us new os : List ℕ)
       → k ≡ outcomeNumber (x .outcome)
       → us ≡ wordsOf (x .rec)
-      → new ≡ appendTable rec ts (standing (rec .next)) d n
+      → new ≡ g rec
       → os ≡ distanceOut (x .outcome) out
       → Left-to seen k us new os
   appended k us new os p q v w =
-      let same : x ≡ appendAnswer (recordOf ws) ts (standing (recordOf ws .next)) d n = a ∙ ap (λ y. appendAnswer y ts (standing (y .next)) d n) m in
+      let same : x ≡ f (recordOf ws) = a ∙ ap f m in
       leaves-by ws ts out 1 r e z _ _ _ _ _ _ _ _
       (p ∙ ap (λ y. outcomeNumber (y .outcome)) same)
       (q ∙ ap (λ y. wordsOf (y .rec)) same)
-      (v ∙ ap (λ y. appendTable y ts (standing (y .next)) d n) m)
+      (v ∙ ap g m)
       (w ∙ ap (λ y. distanceOut (y .outcome) out) same)
 
   -- one law a part: their proofs name no call, so that another call in its place is refused for what it answers
@@ -138,7 +135,7 @@ module _ (ws ts out : List ℕ) (standing : Tick → Standing) (d n r : ℕ) (e 
   pub append-words : (us : List ℕ) → us ≡ wordsOf (x .rec) → us ≡ seen .words
   append-words us p = appended _ us _ _ refl p refl refl .1 .0
 
-  pub append-table : (new : List ℕ) → new ≡ appendTable rec ts (standing (rec .next)) d n → new ≡ seen .table
+  pub append-table : (new : List ℕ) → new ≡ g rec → new ≡ seen .table
   append-table new b = appended _ _ new _ refl refl b refl .1 .1 .0
 
   pub append-out : (os : List ℕ) → os ≡ distanceOut (x .outcome) out → os ≡ seen .out

@@ -13,7 +13,7 @@ use lib.ListN.{length, replicate}
 use Rattle.units.specs.Limits.{largestSpan, largestMillis, largestNumber}
 use Rattle.agreement.specs.Agreement.{kept, agrees}
 use Rattle.flonterri.specs.Words.{recordWords, recordOf}
-use Rattle.flonterri.specs.Face.{Changes, Leaves, opens, appends, appendsStamp, trims, tellsTouching, tellsAvailability, reads, tellsAvailable, tellsFullTick}
+use Rattle.flonterri.specs.Face.{Changes, Leaves, opens, appends, appendsStamp, appendsTrim, trims, tellsTouching, tellsAvailability, reads, tellsAvailable, tellsFullTick}
 
 -- whether the record that words mean agrees with a table
 abbrev pub agreed : List ℕ → List ℕ → Bool
@@ -33,6 +33,8 @@ pub record Binding : Type 0 where
   -- appends, by full tick and by stamp; a duration is one of 32 bits, as its type says
   pub append : (ws ts out : List ℕ) (start d n : ℕ) → d ≤ largestSpan → TellsAgreed (appends ws ts out start d n)
   pub append-stamp : (ws ts out : List ℕ) (stamp d n : ℕ) → d ≤ largestSpan → TellsAgreed (appendsStamp ws ts out stamp d n)
+  -- an append and then a trim
+  pub append-trim : (ws ts out : List ℕ) (stamp d n c : ℕ) → d ≤ largestSpan → TellsAgreed (appendsTrim ws ts out stamp d n c)
   -- trim
   pub trim : (ws ts : List ℕ) (c : ℕ) → LeavesAgreed (trims ws ts c)
   -- reading, of any bytes

@@ -7,7 +7,6 @@ use mathlib.Core.List.{List, [], _∷_}
 use lib.Dec.{eqb}
 use lib.ListN.{length}
 use lib.IntN.{ℤ}
-use Rattle.units.specs.declared.standing.Standing.{Standing}
 use Rattle.units.specs.Standing.{tickStanding, stampStanding}
 use Rattle.agreement.specs.declared.refusal.Refusal.the-variants.{Disagreement, ShortOutput}
 use Rattle.agreement.specs.Numbers.{refusalNumber}
@@ -19,6 +18,7 @@ use Rattle.keeping.specs.Keeping.{outcomeNumber, outcomeDistance}
 use Rattle.timeline.specs.Opening.{openAnswer, openTable}
 use Rattle.timeline.specs.Appending.{appendAnswer, appendTable}
 use Rattle.timeline.specs.Trimming.{trimAnswer, trimTable}
+use Rattle.timeline.specs.Pair.{pairAnswer, pairTable}
 use Rattle.answers.specs.Judgement.{verdictAt, verdictWhole}
 use Rattle.answers.specs.Edge.{coveredEdge}
 use Rattle.lookups.specs.Available.{availabilityIn, availableIn}
@@ -85,17 +85,24 @@ leaves ws ts out n o rec new told =
     guarded (wrongLength (length ws) (length out) n) (λ wrong. record { number = wrong; words = ws; table = ts; out = out })
     (record { number = outcomeNumber o; words = wordsOf rec; table = new; out = told })
 
--- an append tells the distance where it is refused with 4 or 5, and else leaves out as it came
-abbrev pub appendsBy : List ℕ → List ℕ → List ℕ → Standing → ℕ → ℕ → Leaves
-appendsBy ws ts out st d n =
-    let x = appendAnswer (recordOf ws) ts st d n in
-    leaves ws ts out 1 (x .outcome) (x .rec) (appendTable (recordOf ws) ts st d n) (distanceOut (x .outcome) out)
+-- an append, by itself or with a trim behind it, tells the distance where it is refused with 4 or 5, and else leaves out as it came
+abbrev pub appendsBy : List ℕ → List ℕ → List ℕ → Changed → List ℕ → Leaves
+appendsBy ws ts out x new = leaves ws ts out 1 (x .outcome) (x .rec) new (distanceOut (x .outcome) out)
 
 unfoldable pub appends : List ℕ → List ℕ → List ℕ → ℕ → ℕ → ℕ → Leaves
-appends ws ts out start d n = appendsBy ws ts out (tickStanding (record { 0 = start }) (recordOf ws .next)) d n
+appends ws ts out start d n =
+    let st = tickStanding (record { 0 = start }) (recordOf ws .next) in
+    appendsBy ws ts out (appendAnswer (recordOf ws) ts st d n) (appendTable (recordOf ws) ts st d n)
 
 unfoldable pub appendsStamp : List ℕ → List ℕ → List ℕ → ℕ → ℕ → ℕ → Leaves
-appendsStamp ws ts out stamp d n = appendsBy ws ts out (stampStanding (record { 0 = stamp }) (recordOf ws .next)) d n
+appendsStamp ws ts out stamp d n =
+    let st = stampStanding (record { 0 = stamp }) (recordOf ws .next) in
+    appendsBy ws ts out (appendAnswer (recordOf ws) ts st d n) (appendTable (recordOf ws) ts st d n)
+
+unfoldable pub appendsTrim : List ℕ → List ℕ → List ℕ → ℕ → ℕ → ℕ → ℕ → Leaves
+appendsTrim ws ts out stamp d n c =
+    let st = stampStanding (record { 0 = stamp }) (recordOf ws .next) in
+    appendsBy ws ts out (pairAnswer (recordOf ws) ts st d n (record { 0 = c })) (pairTable (recordOf ws) ts st d n (record { 0 = c }))
 
 -- ---- the calls that look
 

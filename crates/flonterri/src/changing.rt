@@ -1,10 +1,10 @@
-// The calls that change: open, append, trim. The record and the table are the caller's words.
+// The calls that change: open, append, trim, and append then trim in one. The record and the table are the caller's words.
 ghost use mathlib.Core.Path.{_≡_};
 ghost use lib.ListN.{length};
 ghost use Rattle.keeping.specs.Keeping.{outcomeNumber};
 ghost use Rattle.flonterri.specs.Words.{wordsOf};
 ghost use Rattle.flonterri.specs.Tells.{distanceOut};
-ghost use Rattle.flonterri.specs.Face.{opens, appends, appendsStamp, trims};
+ghost use Rattle.flonterri.specs.Face.{opens, appends, appendsStamp, appendsTrim, trims};
 use crate::packing::give_back;
 use crate::packing::record_of;
 use crate::packing::wrong_length;
@@ -148,4 +148,36 @@ pub extern "C" fn flonterri_trim(record: &mut [u64], table: &mut [u64], clock: u
     let rec = record_of(record);
     let changed = timeline::trim(rec, table, WideMillis(clock));
     give_back(record, changed)
+}
+
+// Appends references whose start is a 32-bit stamp, and trims at a clock.
+#[no_mangle]
+pub extern "C" fn flonterri_append_trim(
+    record: &mut [u64],
+    table: &mut [u64],
+    stamp: u32,
+    duration: u32,
+    count: u32,
+    clock: u64,
+    out: &mut [u64],
+) -> u32
+    ensures { λ r. ⌜ r ≡ appendsTrim (now («record» .entry)) (now (table .entry)) (now (out .entry)) stamp duration count clock .number ⌝ }
+    ensures { λ _. ⌜ now («record» .exit) ≡ appendsTrim (now («record» .entry)) (now (table .entry)) (now (out .entry)) stamp duration count clock .words ⌝ }
+    ensures { λ _. ⌜ now (table .exit) ≡ appendsTrim (now («record» .entry)) (now (table .entry)) (now (out .entry)) stamp duration count clock .table ⌝ }
+    ensures { λ _. ⌜ now (out .exit) ≡ appendsTrim (now («record» .entry)) (now (table .entry)) (now (out .entry)) stamp duration count clock .out ⌝ }
+{
+    let wrong = wrong_length(record.len(), out.len(), DISTANCE_WORDS);
+    if wrong != 0 {
+        return wrong;
+    }
+    let rec = record_of(record);
+    let changed = timeline::append_trim(
+        rec,
+        table,
+        Stamp(stamp),
+        duration,
+        count,
+        WideMillis(clock),
+    );
+    give_appended(record, out, changed)
 }

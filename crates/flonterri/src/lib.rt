@@ -10,6 +10,7 @@ pub use asking::flonterri_available_at;
 pub use asking::flonterri_full_tick;
 pub use changing::flonterri_append;
 pub use changing::flonterri_append_stamp;
+pub use changing::flonterri_append_trim;
 pub use changing::flonterri_open;
 pub use changing::flonterri_trim;
 pub use filing::flonterri_read;

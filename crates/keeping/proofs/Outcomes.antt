@@ -5,10 +5,11 @@ use mathlib.Core.List.{List}
 use Prim.Native.Nat.{ℕ}
 use Rattle.agreement.specs.declared.Record.{Record}
 use Rattle.agreement.specs.declared.refusal.Refusal.{Refusal}
+use Rattle.agreement.proofs.Numbers.{refusal-some}
 use Rattle.keeping.specs.declared.Outcome.{Outcome}
 use Rattle.keeping.specs.declared.Outcome.the-variants.{Accepted, Refused}
 use Rattle.keeping.specs.declared.Changed.{Changed}
-use Rattle.keeping.specs.Keeping.{changedBy, wordsBy}
+use Rattle.keeping.specs.Keeping.{outcomeNumber, changedBy, wordsBy}
 use native.Mathlib.Nat.{suc-ne-zero}
 
 module _ (o : Outcome) (new old : Record) where
@@ -31,6 +32,12 @@ module _ (o : Outcome) (new old : List ℕ) where
   unfolding wordsBy
   words-accepted e z k = k ∙ sym (ap (λ x. wordsBy x new old) e)
 
+-- the outcome beside a record is the outcome
+pub outcome-beside : (o : Outcome) (new old : Record) → changedBy o new old .outcome ≡ o
+unfolding changedBy
+outcome-beside Accepted new old = refl
+outcome-beside (Refused why) new old = refl
+
 -- ---- one outcome for another
 
 module _ (o other : Outcome) (e : o ≡ other) where
@@ -44,6 +51,10 @@ module _ (o other : Outcome) (e : o ≡ other) where
 
 pub refused-not : (why : Refusal) → Refused why ≡ Accepted → ⊥
 refused-not why e = let z : _≡_ {A = ℕ} 0 1 = cc in suc-ne-zero 0 (sym z)
+
+pub number-accepted : (o : Outcome) → outcomeNumber o ≡ 0 → o ≡ Accepted
+number-accepted Accepted e = refl
+number-accepted (Refused why) e = absurd (refusal-some why e)
 
 -- past a test that refuses where it fails, and past one that refuses where it passes
 pub past-if : (b : Bool) (x : Outcome) (why : Refusal) → cond b x (Refused why) ≡ Accepted → (b ≡ true) × (x ≡ Accepted)

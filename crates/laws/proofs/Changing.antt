@@ -26,13 +26,15 @@ use Rattle.keeping.specs.declared.Outcome.the-variants.{Accepted, Refused}
 use Rattle.keeping.specs.Keeping.{outcomeNumber, changedBy}
 use Rattle.keeping.specs.Append.{given, unspentOf, roomOutcome, fitOutcome}
 use Rattle.keeping.specs.Steps.{Fitting}
+use Rattle.keeping.proofs.Outcomes.{outcome-beside as told}
 use Rattle.keeping.proofs.Stored.{room-exactly}
 use Rattle.timeline.specs.Opening.{openOutcome, openAnswer}
 use Rattle.timeline.specs.Appending.{unjoined_else_, appendOutcome, appendAnswer}
 use Rattle.timeline.specs.Trimming.{trimOutcome, trimAnswer}
+use Rattle.timeline.specs.Pair.{pairOutcome, pairAnswer}
 use Rattle.timeline.proofs.Kept.{or-none}
-use Rattle.laws.specs.Refusals.{lowest, some, overLimit, noRunLeft, appendRows, openRows, trimRows, appendTickRows, appendStampRows}
-use Rattle.laws.proofs.Rows.{Fails, over, none, either, not-every, told}
+use Rattle.laws.specs.Refusals.{lowest, some, overLimit, noRunLeft, stampAfter, stampBefore, givenRows, appendRows, openRows, trimRows, pairRows, appendTickRows, appendStampRows}
+use Rattle.laws.proofs.Rows.{Fails, over, none, either, not-every}
 
 -- ---- opening and trimming
 
@@ -230,3 +232,29 @@ module _ (rec : Record) (ws : List ℕ) (d n : ℕ) (narrow : d ≤ largestSpan)
               let l = leb-true (2 ^ 31) m e in
               ap₂ (λ a b. not a && not b) (ne-eqb m 0 (λ k. let w : ⊥ = omega arith in w)) (le-ltb m (2 ^ 31) l)
           go false e = ap (λ b. not (eqb m 0) && not b) (lt-ltb m (2 ^ 31) (leb-false (2 ^ 31) m e)) ∙ and-false (not (eqb m 0))
+
+-- ---- an append and then a trim
+
+pub append-trim : (rec : Record) (ws : List ℕ) (stamp : Stamp) (d n : ℕ) (c : WideMillis) → d ≤ largestSpan →
+    outcomeNumber (pairAnswer rec ws (stampStanding stamp (rec .next)) d n c .outcome) ≡ lowest (pairRows rec ws stamp d n c)
+unfolding pairOutcome
+append-trim rec ws stamp d n c narrow =
+    ap outcomeNumber (told (pairOutcome rec ws st d n c) _ _) ∙
+    go (agrees rec ws) refl (leb (c .0) largestMillis) ∙
+    ap (λ b. lowest ((not (agrees rec ws), 2) ∷ (b, 10) ∷ rows)) (over (c .0) largestMillis .is)
+  where
+    st : Standing
+    st = stampStanding stamp (rec .next)
+
+    rows : List (Bool × ℕ)
+    rows = givenRows rec ws (stampAfter rec stamp) (stampBefore rec stamp) d n
+
+    go : (a : Bool) → agrees rec ws ≡ a → (b : Bool) →
+        outcomeNumber (cond a (cond b (appendOutcome rec ws st d n) (Refused refusal.ClockLimit)) (Refused refusal.Disagreement)) ≡
+        lowest ((not a, 2) ∷ (not b, 10) ∷ rows)
+    go false e b = refl
+    go true e false = refl
+    go true e true =
+        sym (ap outcomeNumber (told (appendOutcome rec ws st d n) _ _)) ∙
+        append-stamp rec ws d n narrow stamp ∙
+        ap (λ a. lowest ((not a, 2) ∷ rows)) e

@@ -29,9 +29,11 @@ use Rattle.keeping.specs.declared.Outcome.{Outcome}
 use Rattle.keeping.specs.declared.Outcome.the-variants.{Accepted, Refused}
 use Rattle.keeping.specs.Keeping.{outcomeNumber}
 use Rattle.keeping.specs.Append.{fitOutcome}
+use Rattle.keeping.proofs.Outcomes.{outcome-beside as told}
 use Rattle.timeline.specs.Opening.{openOutcome, openAnswer}
 use Rattle.timeline.specs.Appending.{unjoined_else_, appendOutcome, appendAnswer}
 use Rattle.timeline.specs.Trimming.{trimAnswer}
+use Rattle.timeline.specs.Pair.{pairOutcome, pairAnswer}
 use Rattle.answers.specs.Judgement.{verdictAt}
 use Rattle.answers.specs.Numbers.{verdictNumber}
 use Rattle.lookups.specs.declared.Numbered.the-variants.{Missing}
@@ -42,7 +44,7 @@ use Rattle.lookups.specs.Available.{keptNumber, numberAvailability, numberAvail
 use Rattle.lookups.proofs.Numbering.{number-over}
 use Rattle.laws.specs.Refusals.{lowest}
 use Rattle.laws.specs.Constructors.{Constructors, firstRefusal, disagreement}
-use Rattle.laws.proofs.Rows.{over, none, told}
+use Rattle.laws.proofs.Rows.{over, none}
 use Rattle.laws.proofs.Refusals.{refusals}
 
 -- ---- one constructor
@@ -172,6 +174,25 @@ appends rec ws st d n l =
 
 -- ---- at a clock
 
+pairs : (rec : Record) (ws : List ℕ) (st : Standing) (d n : ℕ) (c : WideMillis) → d ≤ largestSpan →
+    outcomeNumber (pairAnswer rec ws st d n c .outcome) ≡
+    firstRefusal
+    (disagreement rec ws ∷ clockNumber (millisMade (c .0)) ∷ spanNumber (spanMade d) ∷ cond (eqb n 0) 3 0 ∷ standingNumber st ∷
+    outcomeNumber (fitOutcome rec ws d n) ∷ [])
+unfolding pairOutcome
+pairs rec ws st d n c l = ap outcomeNumber (told (pairOutcome rec ws st d n c) _ _) ∙ go (agrees rec ws) refl (leb (c .0) largestMillis)
+  where
+    rest : List ℕ
+    rest = spanNumber (spanMade d) ∷ cond (eqb n 0) 3 0 ∷ standingNumber st ∷ outcomeNumber (fitOutcome rec ws d n) ∷ []
+
+    go : (a : Bool) → agrees rec ws ≡ a → (b : Bool) →
+        outcomeNumber (cond a (cond b (appendOutcome rec ws st d n) (Refused refusal.ClockLimit)) (Refused refusal.Disagreement)) ≡
+        firstRefusal (cond a 0 2 ∷ clockNumber (cond b (millis.Made (record { 0 = c .0 })) millis.Refused) ∷ rest)
+    go false e b = refl
+    go true e false = refl
+    go true e true =
+        sym (ap outcomeNumber (told (appendOutcome rec ws st d n) _ _)) ∙ appends rec ws st d n l ∙ ap (λ a. firstRefusal (cond a 0 2 ∷ rest)) e
+
 trims : (rec : Record) (ws : List ℕ) (c : WideMillis) →
     outcomeNumber (trimAnswer rec ws c .outcome) ≡ firstRefusal (disagreement rec ws ∷ clockNumber (millisMade (c .0)) ∷ [])
 trims rec ws c =
@@ -238,6 +259,7 @@ constructors =
       head = fields;
       opening = opens;
       append = appends;
+      append-trim = pairs;
       trim = trims;
       verdict = verdicts;
       availability = availabilities;

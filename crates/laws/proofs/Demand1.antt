@@ -17,6 +17,7 @@ use Rattle.keeping.specs.Keeping.{outcomeNumber, outcomeDistance}
 use Rattle.timeline.specs.Opening.{openOutcome, openAnswer, openTable, zeroRecord}
 use Rattle.timeline.specs.Appending.{appendOutcome}
 use Rattle.timeline.specs.Trimming.{trimOutcome}
+use Rattle.timeline.specs.Pair.{pairOutcome}
 use Rattle.answers.specs.Judgement.{verdictAt, verdictWhole}
 use Rattle.answers.specs.Edge.{coveredEdge}
 use Rattle.answers.specs.Numbers.{verdictNumber, edgeNumber}
@@ -27,12 +28,12 @@ use Rattle.lookups.specs.Numbers.{availabilityNumber, availableNumber, touching
 use Rattle.writing.specs.Writing.{writeNumber, writeAnswer, fileFor}
 use Rattle.flonterri.specs.Words.{recordOf, headWith}
 use Rattle.flonterri.specs.Tells.{verdictTells, availabilityTells, touchingTells, availableTells, fullTickTells, edgeTells}
-use Rattle.flonterri.specs.Face.{opens, appends, appendsStamp, trims, tellsVerdict, tellsWhole, tellsAvailability, tellsTouching, writes, tellsAvailable, tellsFullTick, tellsEdge}
+use Rattle.flonterri.specs.Face.{opens, appends, appendsStamp, appendsTrim, trims, tellsVerdict, tellsWhole, tellsAvailability, tellsTouching, writes, tellsAvailable, tellsFullTick, tellsEdge}
 use Rattle.flonterri.proofs.Refusing as refusing
-use Rattle.laws.specs.Refusals.{lowest, distanceWith, overLimit, openRows, appendTickRows, appendStampRows, trimRows, verdictRows, wholeRows, availabilityRows, touchingRows, writeRows, availableRows, fullTickRows, edgeRows}
+use Rattle.laws.specs.Refusals.{lowest, distanceWith, overLimit, openRows, appendTickRows, appendStampRows, pairRows, trimRows, verdictRows, wholeRows, availabilityRows, touchingRows, writeRows, availableRows, fullTickRows, edgeRows}
 use Rattle.laws.specs.Demand1.{GivesNumber, lengthRows, ChangesFromC, AppendsFromC, OpensFromC, TellsC, Answers, Demand1}
 use Rattle.laws.proofs.Refusals.{refusals}
-use Rattle.laws.proofs.Distances.{tick-far, stamp-far, append-told}
+use Rattle.laws.proofs.Distances.{tick-far, stamp-far, append-told, pair-told}
 use Rattle.laws.proofs.Answering.{appends-c, leaves-number, full-only, available-told, full-told, changing, verdict-only, availability-only, available-only, touching-only, no-part, write-leaves, reading, feeding, finishing, changes-number, tells-number, verdict-told, availability-told, touching-told, writes-number, changes-c, tells-c, length-alone, reads-c, writes-c, edge-only, edge-told}
 
 -- a number, and what is left where it refuses, of an answer that equals another
@@ -99,6 +100,22 @@ module _ (ws ts : List ℕ) where
         (refusing.refused-appends ws ts out _ _ o)
         (refusing.distance-told ws ts out _ _ (λ m. distanceWith m (less32 start next) (less32 next start)) o
         (append-told _ _ (recordOf ws) ts _ d n (stamp-far (record { 0 = start }) (recordOf ws .next) small) .distance))
+        x words table told e f g h
+
+    by-pair : (c : ℕ) → start < 2 ^ 32 → (x : ℕ) (words table told : List ℕ) → x ≡ appendsTrim ws ts out start d n c .number →
+        words ≡ appendsTrim ws ts out start d n c .words → table ≡ appendsTrim ws ts out start d n c .table → told ≡ appendsTrim ws ts out start d n c .out →
+        AppendsFromC x ws ts out words table told (pairRows (recordOf ws) ts (record { 0 = start }) d n (record { 0 = c }))
+        (less32 start (recordOf ws .next .0)) (less32 (recordOf ws .next .0) start)
+    unfolding appendsTrim
+    by-pair c small x words table told e f g h =
+        let rows = pairRows (recordOf ws) ts (record { 0 = start }) d n (record { 0 = c }) in
+        let next = recordOf ws .next .0 in
+        let o = pairOutcome (recordOf ws) ts (stampStanding (record { 0 = start }) (recordOf ws .next)) d n (record { 0 = c }) in
+        appends-c ws ts out rows (less32 start next) (less32 next start) (appendsTrim ws ts out start d n c)
+        (leaves-number ws ts out 1 _ _ _ _ rows (refusals .append-trim (recordOf ws) ts (record { 0 = start }) d n (record { 0 = c }) narrow))
+        (refusing.refused-appends ws ts out _ _ o)
+        (refusing.distance-told ws ts out _ _ (λ m. distanceWith m (less32 start next) (less32 next start)) o
+        (pair-told _ _ (recordOf ws) ts _ d n (stamp-far (record { 0 = start }) (recordOf ws .next) small) (record { 0 = c }) .distance))
         x words table told e f g h
 
   trims-c : (c x : ℕ) (words table : List ℕ) → x ≡ trims ws ts c .number → words ≡ trims ws ts c .words → table ≡ trims ws ts c .table →
@@ -211,6 +228,14 @@ demand-1 =
                 (refusals .append-stamp rec (now table) stamp d n narrow) x _ (p .0) (p .1);
             distance = passed x _ _ _ (p .0) (refusals .stamp-distance rec (now table) stamp d n small);
           });
+      append-trim =
+          answered (λ κs (rec, (table, (stamp, (d, (n, (clock, _)))))) x e p narrow small.
+          record {
+            changes =
+                changing (pairOutcome rec (now table) (stampStanding stamp (rec .next)) d n clock) _ rec _ (now table) _
+                (refusals .append-trim rec (now table) stamp d n clock narrow) x _ (p .0) (p .1);
+            distance = passed x _ _ _ (p .0) (refusals .pair-distance rec (now table) stamp d n clock small);
+          });
       trim =
           answered (λ κs (rec, (table, (clock, _))) x e p.
           changing (trimOutcome rec (now table) clock) _ rec _ (now table) _ (refusals .trim rec (now table) clock) x _ (p .0) (p .1));
@@ -252,6 +277,9 @@ demand-1 =
       c-append-stamp =
           answered (λ κs (rec, (table, (stamp, (d, (n, (out, _)))))) x e p narrow small.
           by-stamp (now rec) (now table) (now out) stamp d n narrow small x _ _ _ (p .0) (p .1 .0) (p .1 .1 .0) (p .1 .1 .1));
+      c-append-trim =
+          answered (λ κs (rec, (table, (stamp, (d, (n, (clock, (out, _))))))) x e p narrow small.
+          by-pair (now rec) (now table) (now out) stamp d n narrow clock small x _ _ _ (p .0) (p .1 .0) (p .1 .1 .0) (p .1 .1 .1));
       c-trim = answered (λ κs (rec, (table, (clock, _))) x e p. trims-c (now rec) (now table) clock x _ _ (p .0) (p .1 .0) (p .1 .1));
       c-verdict = answered (λ κs (rec, (table, (clock, (out, _)))) x e p. verdict-c (now rec) (now table) clock (now out) x _ (p .0) (p .1));
       c-verdict-whole = answered (λ κs (rec, (table, (out, _))) x e p. whole-c (now rec) (now table) (now out) x _ (p .0) (p .1));

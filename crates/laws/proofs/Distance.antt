@@ -26,6 +26,7 @@ use Rattle.keeping.specs.declared.Outcome.{Outcome}
 use Rattle.keeping.specs.declared.Outcome.the-variants.{Accepted}
 use Rattle.keeping.specs.Keeping.{unspent, changedBy, wordsBy}
 use Rattle.keeping.specs.Append.{roomOutcome, fitOutcome}
+use Rattle.keeping.proofs.Outcomes.{outcome-beside as told, number-accepted}
 use Rattle.timeline.specs.Opening.{openOutcome}
 use Rattle.timeline.specs.Appending.{appendOutcome}
 use Rattle.hex.specs.Digits as hex
@@ -44,9 +45,7 @@ use Rattle.laws.specs.Refusals.{lowest, distanceWith, overLimit}
 use Rattle.laws.specs.Lines.{startOf, openingTick, Sofar, appendedRows, isFirst, timelineFor, sRows, lineDistance}
 use Rattle.laws.specs.ByHand.{stamp, apart, appendOf}
 use Rattle.laws.specs.Distance.{OnlyApart, DistanceRight}
-use Rattle.laws.proofs.Rows.{told}
-use Rattle.laws.proofs.NoRow.{number-accepted}
-use Rattle.laws.proofs.Distances.{Far, Told, tick-far, stamp-far, append-told}
+use Rattle.laws.proofs.Distances.{Far, Told, tick-far, stamp-far, append-told, pair-told}
 use Rattle.laws.proofs.LineByLine.{open-number, opened}
 use Rattle.laws.proofs.Reading.{distance-sure}
 use Rattle.laws.proofs.Stamps.{distance-shows, full-tick-right}
@@ -215,6 +214,8 @@ distance-right =
       append = λ rec ws start d n. only-apart _ _ _ _ _ (append-told _ _ rec ws (tickStanding start (rec .next)) d n (tick-far start (rec .next)));
       append-stamp = λ rec ws s d n small.
           only-apart _ _ _ _ _ (append-told _ _ rec ws (stampStanding s (rec .next)) d n (stamp-far s (rec .next) small));
+      append-trim = λ rec ws s d n c small.
+          only-apart _ _ _ _ _ (pair-told _ _ rec ws (stampStanding s (rec .next)) d n (stamp-far s (rec .next) small) c);
       read = distance-sure;
       first = first-none;
       a-none = ap (λ s. appendOf s 170 0 1) (by-hand .a-state);

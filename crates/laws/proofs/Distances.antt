@@ -8,10 +8,11 @@ use borrow.Author.Tests.{lt-ltb, ltb-true, ltb-false, eqb-false}
 use lib.Dec.{eqb, leb, ltb}
 use Rattle.units.specs.declared.Stamp.{Stamp}
 use Rattle.units.specs.declared.Tick.{Tick}
+use Rattle.units.specs.declared.WideMillis.{WideMillis}
 use Rattle.units.specs.declared.WideTick.{WideTick}
 use Rattle.units.specs.declared.standing.Standing.{Standing}
 use Rattle.units.specs.declared.standing.Standing.the-variants.{Joins, Gap, Overlap}
-use Rattle.units.specs.Limits.{largestTick, tickHeld}
+use Rattle.units.specs.Limits.{largestTick, tickHeld, clockHeld}
 use Rattle.units.specs.Standing.{less32, standingBy, tickStanding, stampStanding}
 use Rattle.window.specs.declared.Head.{Head}
 use Rattle.window.specs.Limits.{headHeld}
@@ -27,6 +28,7 @@ use Rattle.keeping.specs.Keeping.{outcomeNumber, outcomeDistance}
 use Rattle.keeping.specs.Append.{given, unspentOf, roomOutcome, fitOutcome}
 use Rattle.timeline.specs.Opening.{openOutcome}
 use Rattle.timeline.specs.Appending.{unjoined_else_, appendOutcome}
+use Rattle.timeline.specs.Pair.{pairOutcome}
 use Rattle.file.specs.Judging.{reachOutcome}
 use Rattle.laws.specs.Refusals.{isApart, distanceWith}
 
@@ -113,6 +115,15 @@ module _ (a b : ℕ) where
         go false z t = record { distance = refl; some = refl }
         go true true t = record { distance = refl; some = refl }
         go true false t = t
+
+    pub pair-told : (c : WideMillis) → Told (pairOutcome rec ws st d n c) a b
+    unfolding pairOutcome
+    pair-told c = go (agrees rec ws) (clockHeld c) append-told
+      where
+        go : (s h : Bool) {o : Outcome} → Told o a b → Told (cond s (cond h o (Refused refusal.ClockLimit)) (Refused refusal.Disagreement)) a b
+        go false h t = record { distance = refl; some = refl }
+        go true false t = record { distance = refl; some = refl }
+        go true true t = t
 
     pub reach-told : Told (reachOutcome rec ws st d n) a b
     unfolding reachOutcome

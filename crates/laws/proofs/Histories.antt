@@ -8,6 +8,7 @@ use Prim.Native.Nat.{ℕ, _+_, _-_, _*_, _/_, _≤_, max}
 use native.Mathlib.Nat.{le-max-left, max-zero, zero-max, le-refl, le-antisymm, sub-zero}
 use native.Mathlib.Omega.{arith}
 use lib.ListN.{length, drop, replicate, length-append, length-replicate}
+use Rattle.units.specs.declared.Stamp.{Stamp}
 use Rattle.units.specs.declared.WideMillis.{WideMillis}
 use Rattle.units.specs.declared.Tick.{Tick}
 use Rattle.units.specs.declared.standing.Standing.{Standing}
@@ -35,11 +36,16 @@ use Rattle.keeping.proofs.Unspent.{unspent-append, unspent-few}
 use Rattle.timeline.specs.Opening.{freshRecord, zeroRecord, openOutcome}
 use Rattle.timeline.specs.Appending.{appendOutcome}
 use Rattle.timeline.specs.Trimming.{unspentAt, trimOutcome, trimmed}
-use Rattle.timeline.proofs.Kept.{open-agrees, trim-keeps, Taken, taken, accepted-keeps}
-use Rattle.laws.specs.Calls.{Call, byTick, byStamp, trimAt, Plain, State, opening, appendTo, after, afterCalls, outcomeOf, ifAccepted, brought, allAccepted, acceptedAppends, laidFrom, clockIf, clockOf, greatest}
+use Rattle.timeline.specs.Pair.{pairOutcome}
+use Rattle.timeline.proofs.Kept.{open-agrees, trim-passed, trim-keeps, Taken, taken, accepted-keeps}
+use Rattle.timeline.proofs.Pairs.{trim-taken, pair-passed}
+use Rattle.laws.specs.Calls.{Call, byTick, byStamp, trimAt, pairAt, Plain, State, opening, appendTo, after, afterCalls, outcomeOf, ifAccepted, brought, allAccepted, acceptedAppends, laidFrom, clockIf, clockOf, greatest}
 use Rattle.laws.specs.History.{StillNeeded, Picked, Holds, Mixings, Demand3}
-use Rattle.laws.proofs.Calling.{stateFrom, append-done, append-refused, trim-done, trim-refused, answered, laid-out, never, stay}
-use Rattle.laws.proofs.Leaving.{unspent-raised, left-suffix, left-kept, trim-room, trim-small, each-sound, drop-counted, still}
+use Rattle.laws.proofs.Calling.{stateFrom, append-done, append-refused, trim-done, trim-refused, pair-done, pair-refused, answered, laid-out, never, stay}
+use Rattle.laws.proofs.Leaving.{unspent-raised, left-suffix, left-kept, trim-room, each-sound, drop-counted, still}
+
+pub max-assoc : (a b d : ℕ) → max (max a b) d ≡ max a (max b d)
+max-assoc a b d = le-antisymm (omega arith) (omega arith)
 
 -- ---- the state of a history
 
@@ -178,7 +184,7 @@ module _ (h : Head) (t : Tick) (words : ℕ) where
         trim-state = trim-done (stateOf acc c) m e ∙ ap₂ stateFrom trimmed-is trim-words
 
         small : m .0 ≤ largestMillis
-        small = trim-small (recordOf acc c) (wordsOf acc c) m e
+        small = trim-passed (recordOf acc c) (wordsOf acc c) m e .1
 
         kept-agrees : agrees (recordOf acc (max c (m .0))) (wordsOf acc (max c (m .0))) ≡ true
         kept-agrees = ap₂ agrees (sym trimmed-is) (sym trim-words) ∙ trim-keeps (recordOf acc c) (wordsOf acc c) m (fit .agreed) small
@@ -199,9 +205,6 @@ module _ (h : Head) (t : Tick) (words : ℕ) where
             }
 
   -- ---- a list of calls
-
-  max-assoc : (a b d : ℕ) → max (max a b) d ≡ max a (max b d)
-  max-assoc a b d = le-antisymm (omega arith) (omega arith)
 
   -- one call takes a history to a longer one
   record Next (acc : List Reference) (c : ℕ) (call : Call) : Type 0 where
@@ -237,6 +240,25 @@ module _ (h : Head) (t : Tick) (words : ℕ) where
     same-history acc (acc ++ []) c (max c 0) (sym (append-nil acc)) (sym (max-zero c)) f,
   )
 
+  next-pair : (acc : List Reference) (c : ℕ) → Fit acc c → (x : Stamp) (d n : ℕ) (m : WideMillis) → d ≤ largestSpan →
+      (o : Outcome) → pairOutcome (recordOf acc c) (wordsOf acc c) (stampStanding x (recordOf acc c .next)) d n m ≡ o →
+      (after (stateOf acc c) (pairAt x d n m) ≡ stateOf (acc ++ ifAccepted o (given (recordOf acc c) d n)) (max c (clockIf o (m .0)))) ×
+      Fit (acc ++ ifAccepted o (given (recordOf acc c) d n)) (max c (clockIf o (m .0)))
+  unfolding new
+  next-pair acc c f x d n m l Accepted e =
+      let st = stampStanding x (recordOf acc c .next) in
+      let p = pair-passed (recordOf acc c) (wordsOf acc c) st d n m e in
+      let long = acc ++ given (recordOf acc c) d n in
+      let g = append-fit acc c f st d n l (p .taken) in
+      let t = trim-taken (recordOf long c) (wordsOf long c) m (p .held) (g .agreed) in (
+        pair-done (stateOf acc c) x d n m e ∙ ap (λ s. after s (trimAt m)) (append-state acc c f st d n l (p .taken)) ∙ trim-state long c g m t,
+        trim-fit long c g m t,
+      )
+  next-pair acc c f x d n m l (Refused why) e = (
+    pair-refused (stateOf acc c) x d n m why e ∙ ap₂ stateOf (sym (append-nil acc)) (sym (max-zero c)),
+    same-history acc (acc ++ []) c (max c 0) (sym (append-nil acc)) (sym (max-zero c)) f,
+  )
+
   -- a trim brings nothing, however it ends
   none-brought : (o : Outcome) → ifAccepted {A = Reference} o [] ≡ []
   none-brought Accepted = refl
@@ -260,6 +282,10 @@ module _ (h : Head) (t : Tick) (words : ℕ) where
         state = k .0 ∙ ap (λ xs. stateOf xs clock) (sym none);
         fits = same-history (acc ++ []) (acc ++ brought s (trimAt m)) clock clock (sym none) refl (k .1);
       }
+  next-call acc c f (pairAt x d n m) p =
+      let s = stateOf acc c in
+      let k = next-pair acc c f x d n m (p .0) (outcomeOf s (pairAt x d n m)) (answered s (pairAt x d n m)) in
+      record { state = k .0; fits = k .1 }
 
   -- THE LAW: a list of calls takes the state of a history to the state of the longer history
   record Ran (acc : List Reference) (c : ℕ) (cs : List Call) : Type 0 where
@@ -270,6 +296,7 @@ module _ (h : Head) (t : Tick) (words : ℕ) where
   plain-first (byTick x d n) cs p = ((p .0, tt), p .1)
   plain-first (byStamp x d n) cs p = ((p .0, tt), p .1)
   plain-first (trimAt m) cs p = (tt, p)
+  plain-first (pairAt x d n m) cs p = ((p .0, tt), p .1)
 
   runs : (acc : List Reference) (c : ℕ) → Fit acc c → (cs : List Call) → Plain cs → Ran acc c cs
   unfolding afterCalls allAccepted greatest

@@ -5,10 +5,7 @@ use mathlib.Core.List.{List, [], _∷_}
 use Prim.Native.Nat.{ℕ, zero, suc, _+_, _-_, _/_, _≤_, max}
 use native.Mathlib.Nat.{sub-self, le-trans}
 use native.Mathlib.Omega.{arith}
-use borrow.Author.Tests.{leb-true}
 use lib.ListN.{length, getD, take, drop, length-drop}
-use Rattle.units.specs.declared.WideMillis.{WideMillis}
-use Rattle.units.specs.Limits.{largestMillis, clockHeld}
 use Rattle.window.specs.declared.Head.{Head}
 use Rattle.window.specs.declared.Reference.{Reference}
 use Rattle.window.specs.Place.{beforeEnd}
@@ -22,14 +19,11 @@ use Rattle.runs.proofs.Encoded.{runs-drop}
 use Rattle.runs.proofs.EndToStart.{join-drop, kept-join}
 use Rattle.runs.proofs.Tables.{canonical-kept, runs-for-kept, used-fits}
 use Rattle.agreement.specs.declared.Record.{Record}
-use Rattle.agreement.specs.declared.refusal.Refusal.the-variants.{Disagreement, ClockLimit}
 use Rattle.agreement.specs.Agreement.{kept, every, agrees}
 use Rattle.agreement.proofs.Agreeing.{agree-shaped}
-use Rattle.keeping.specs.declared.Outcome.the-variants.{Accepted, Refused}
 use Rattle.keeping.specs.Keeping.{unspent}
-use Rattle.keeping.proofs.Outcomes.{past-if}
 use Rattle.keeping.proofs.Unspent.{unspent-suffix}
-use Rattle.timeline.specs.Trimming.{unspentAt, trimOutcome}
+use Rattle.timeline.specs.Trimming.{unspentAt}
 use Rattle.laws.specs.History.{StillNeeded, Picked, end, kept-one, left-out}
 
 pub unspent-raised : (h : Head) (c d : ℕ) → c ≤ d → (rs : List Reference) → unspent h d (unspent h c rs) ≡ unspent h d rs
@@ -62,17 +56,6 @@ trim-room rec ws a c =
     let t = agree-shaped rec ws a in
     le-trans (left-fewer (rec .head) (max (rec .clock .0) c) (getD ws 0 0) (kept rec ws) (kept-join (rec .used) ws t))
     (subst⁻¹ (λ (n : ℕ). n ≤ length ws / 3) (runs-for-kept (rec .used) ws t) (used-fits (rec .used) ws t))
-
--- an accepted trim had a record and a table that agree, and a clock within its limit
-pub trim-agreed : (rec : Record) (ws : List ℕ) (m : WideMillis) → trimOutcome rec ws m ≡ Accepted → agrees rec ws ≡ true
-unfolding trimOutcome
-trim-agreed rec ws m e = past-if (agrees rec ws) (cond (clockHeld m) Accepted (Refused ClockLimit)) Disagreement e .0
-
-pub trim-small : (rec : Record) (ws : List ℕ) (m : WideMillis) → trimOutcome rec ws m ≡ Accepted → m .0 ≤ largestMillis
-unfolding trimOutcome
-trim-small rec ws m e =
-    let a = past-if (agrees rec ws) (cond (clockHeld m) Accepted (Refused ClockLimit)) Disagreement e in
-    leb-true (m .0) largestMillis (past-if (clockHeld m) Accepted ClockLimit (a .1) .0)
 
 -- references that start before the period end and last
 pub each-sound : (h : Head) (d : ℕ) → 1 ≤ d → (s n : ℕ) → every (λ r. beforeEnd h (r .start .0)) (repeated s d n) ≡ true → Each (Sound h) (repeated s d n)

@@ -19,6 +19,7 @@ use Rattle.agreement.specs.Numbers.{refusalNumber, refusalDistance}
 use Rattle.keeping.specs.declared.Outcome.{Outcome}
 use Rattle.keeping.specs.declared.Outcome.the-variants as outcome
 use Rattle.keeping.specs.Keeping.{outcomeNumber, outcomeDistance, changedBy, wordsBy}
+use Rattle.keeping.proofs.Outcomes.{outcome-beside as told}
 use Rattle.timeline.specs.Opening.{freshRecord, zeroRecord, openOutcome}
 use Rattle.timeline.proofs.Kept.{open-agrees}
 use Rattle.frames.specs.declared.Frame.{Frame}
@@ -35,7 +36,7 @@ use Rattle.file.proofs.Places.{narrow}
 use Rattle.laws.specs.Calls.{State, after, opening}
 use Rattle.laws.specs.Refusals.{lowest, isApart, overLimit}
 use Rattle.laws.specs.Lines.{startOf, openingTick, negative, callOf, Place, atFirst, afterHead, afterS, afterNegative, afterEnd, mayStand, Sofar, appendedRows, timelineFor, lineRows, lineDistance, taking, Result, accepted, refusedAt, unlessRefused, judged, beginning}
-use Rattle.laws.proofs.Rows.{told, none as none-there}
+use Rattle.laws.proofs.Rows.{none as none-there}
 use Rattle.laws.proofs.Changing as changing
 use Rattle.laws.proofs.Distances.{Told, open-told}
 use Rattle.laws.proofs.NoRow.{none-holds, refused-number}

@@ -4,18 +4,19 @@ use mathlib.Core.Bool.{Bool, true, false, cond, not, _||_}
 use mathlib.Core.List.{List, [], _∷_}
 use Prim.Native.Nat.{ℕ, _≤_}
 use native.Mathlib.Omega.{arith}
-use borrow.Author.Tests.{ne-eqb, eqb-false}
+use borrow.Author.Tests.{ne-eqb}
 use lib.Dec.{eqb, ltb}
 use Rattle.units.specs.declared.WideTick.{WideTick}
 use Rattle.units.specs.Limits.{largestSpan}
 use Rattle.units.specs.Standing.{tickStanding}
 use Rattle.agreement.specs.declared.refusal.Refusal.{Refusal}
-use Rattle.agreement.specs.declared.refusal.Refusal.the-variants.{OverLimit, Disagreement, NothingGiven, Gap, Overlap, TickLimit, CountLimit, PastEnd, NoRunLeft, ClockLimit, EarlierClock, NothingKept, NotKept, EmptySpan, ShortOutput, BadLine, BadOrder, NoEndToReach, EndUnknown}
 use Rattle.agreement.specs.Agreement.{agrees}
 use Rattle.agreement.specs.Numbers.{refusalNumber}
+use Rattle.agreement.proofs.Numbers.{refusal-some}
 use Rattle.keeping.specs.declared.Outcome.{Outcome}
-use Rattle.keeping.specs.declared.Outcome.the-variants.{Accepted, Refused}
+use Rattle.keeping.specs.declared.Outcome.the-variants.{Accepted}
 use Rattle.keeping.specs.Keeping.{outcomeNumber}
+use Rattle.keeping.proofs.Outcomes.{number-accepted}
 use Rattle.timeline.specs.Appending.{appendAnswer}
 use Rattle.timeline.proofs.Kept.{or-none}
 use Rattle.laws.specs.Calls.{State}
@@ -44,33 +45,8 @@ pub no-row : (rows : List (Bool × ℕ)) → NoneHolds rows → lowest rows ≡ 
 no-row [] n = refl
 no-row (row ∷ rows) n = ap (λ b. cond b (row .1) (lowest rows)) (n .0) ∙ no-row rows (n .1)
 
-some-number : (why : Refusal) → eqb (refusalNumber why) 0 ≡ false
-some-number OverLimit = refl
-some-number Disagreement = refl
-some-number NothingGiven = refl
-some-number (Gap d) = refl
-some-number (Overlap d) = refl
-some-number TickLimit = refl
-some-number CountLimit = refl
-some-number PastEnd = refl
-some-number NoRunLeft = refl
-some-number ClockLimit = refl
-some-number EarlierClock = refl
-some-number NothingKept = refl
-some-number NotKept = refl
-some-number EmptySpan = refl
-some-number ShortOutput = refl
-some-number BadLine = refl
-some-number BadOrder = refl
-some-number NoEndToReach = refl
-some-number EndUnknown = refl
-
 pub refused-number : (why : Refusal) (n : ℕ) → n ≡ refusalNumber why → eqb n 0 ≡ false
-refused-number why n e = ap (λ (m : ℕ). eqb m 0) e ∙ some-number why
-
-pub number-accepted : (o : Outcome) → outcomeNumber o ≡ 0 → o ≡ Accepted
-number-accepted Accepted e = refl
-number-accepted (Refused why) e = absurd (eqb-false (refusalNumber why) 0 (some-number why) e)
+refused-number why n e = ne-eqb n 0 (λ z. refusal-some why (sym e ∙ z))
 
 -- ---- an append and a negative r: no row of the one holds exactly where no row of the other does
 

@@ -24,6 +24,7 @@ use Rattle.keeping.specs.declared.Outcome.{Outcome}
 use Rattle.keeping.specs.declared.Outcome.the-variants.{Refused}
 use Rattle.keeping.specs.Keeping.{outcomeNumber}
 use Rattle.keeping.specs.Append.{fitOutcome}
+use Rattle.keeping.proofs.Outcomes.{outcome-beside as told}
 use Rattle.timeline.specs.Appending.{unjoined_else_, appendOutcome}
 use Rattle.timeline.proofs.Judged.{stands-joins}
 use Rattle.file.specs.Least.{leastCount}
@@ -32,7 +33,6 @@ use Rattle.file.proofs.Counts.{least-holds}
 use Rattle.laws.specs.Calls.{State}
 use Rattle.laws.specs.Refusals.{lowest, some, startsPast, noRunLeft}
 use Rattle.laws.specs.Lines.{reachRows}
-use Rattle.laws.proofs.Rows.{told}
 use Rattle.laws.proofs.Changing.{append, gap-is, overlap-is, after, before}
 
 -- ---- the tests

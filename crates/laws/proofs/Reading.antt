@@ -10,6 +10,7 @@ use Rattle.agreement.specs.declared.Record.{Record}
 use Rattle.keeping.specs.declared.Outcome.{Outcome}
 use Rattle.keeping.specs.declared.Outcome.the-variants.{Accepted, Refused}
 use Rattle.keeping.specs.Keeping.{outcomeNumber, outcomeDistance}
+use Rattle.keeping.proofs.Outcomes.{outcome-beside as told, number-accepted}
 use Rattle.timeline.specs.Opening.{openOutcome}
 use Rattle.frames.specs.declared.Frame.{Frame}
 use Rattle.frames.specs.declared.Frame.the-variants.{S, End}
@@ -32,8 +33,6 @@ use Rattle.laws.specs.Refusals.{isApart}
 use Rattle.laws.specs.Lines.{openingTick, Result, accepted, judged, beginning, judgedFile}
 use Rattle.laws.specs.Reading.{fileFrames, StandFor, openingOf, ReadsAs, IsFile, ReadingRight}
 use Rattle.laws.proofs.Histories.{demand-3}
-use Rattle.laws.proofs.Rows.{told}
-use Rattle.laws.proofs.NoRow.{number-accepted}
 use Rattle.laws.proofs.LineByLine.{readResult, none, same-way, all-sure}
 use Rattle.laws.proofs.Bytes.{frames-again, AllFrames, AllNarrow, all-narrow, bytes-again}
 use Rattle.laws.proofs.WholeFile.{Whole, whole-only, whole-if}

@@ -27,6 +27,7 @@ use Rattle.agreement.proofs.Agreeing.{agreeing}
 use Rattle.keeping.specs.declared.Outcome.{Outcome}
 use Rattle.keeping.specs.declared.Outcome.the-variants.{Refused}
 use Rattle.keeping.specs.Keeping.{outcomeNumber, outcomeDistance, changedBy}
+use Rattle.keeping.proofs.Outcomes.{outcome-beside as told}
 use Rattle.answers.specs.declared.Verdict.{Verdict}
 use Rattle.answers.specs.declared.Verdict.the-variants as verdict
 use Rattle.answers.specs.Counts.{neededCount, coveredCount, lowestLacking}
@@ -50,9 +51,9 @@ use Rattle.lookups.specs.Numbers.{availabilityNumber, availableNumber, touching
 use Rattle.writing.specs.declared.WriteAnswer.the-variants as written
 use Rattle.writing.specs.Writing.{fileFor, writeAnswer, writeNumber}
 use Rattle.laws.specs.Refusals.{lowest, distanceWith, some, notKept, Refusals, verdictRows, wholeRows, availabilityRows, availableRows, touchingRows, writeRows, fullTickRows, edgeRows}
-use Rattle.laws.proofs.Rows.{over, under, none, told}
-use Rattle.laws.proofs.Distances.{Told, tick-far, stamp-far, append-told}
-use Rattle.laws.proofs.Changing.{opening, trim, append, append-stamp}
+use Rattle.laws.proofs.Rows.{over, under, none}
+use Rattle.laws.proofs.Distances.{Told, tick-far, stamp-far, append-told, pair-told}
+use Rattle.laws.proofs.Changing.{opening, trim, append, append-stamp, append-trim}
 
 -- ---- the distance
 
@@ -242,6 +243,9 @@ refusals =
           beside _ _ _ _ _ (append-told _ _ rec ws (tickStanding start (rec .next)) d n (tick-far start (rec .next)));
       stamp-distance = λ rec ws stamp d n small.
           beside _ _ _ _ _ (append-told _ _ rec ws (stampStanding stamp (rec .next)) d n (stamp-far stamp (rec .next) small));
+      append-trim = append-trim;
+      pair-distance = λ rec ws stamp d n c small.
+          beside _ _ _ _ _ (pair-told _ _ rec ws (stampStanding stamp (rec .next)) d n (stamp-far stamp (rec .next) small) c);
       trim = trim;
       verdict = verdict-at;
       verdict-whole = verdict-whole;

@@ -7,11 +7,7 @@ use native.Mathlib.Omega.{arith}
 use borrow.Author.Tests.{ltb-true, ltb-false, leb-true, leb-false, lt-ltb, le-ltb, le-leb, lt-leb, eq-eqb, ne-eqb}
 use lib.Dec.{eqb, leb, ltb}
 use Rattle.window.specs.declared.Reference.{Reference}
-use Rattle.agreement.specs.declared.Record.{Record}
 use Rattle.agreement.specs.Agreement.{every}
-use Rattle.keeping.specs.declared.Outcome.{Outcome}
-use Rattle.keeping.specs.declared.Outcome.the-variants.{Accepted, Refused}
-use Rattle.keeping.specs.Keeping.{changedBy}
 use Rattle.laws.specs.Refusals.{some}
 
 -- that a test fails is, in the words of the column, this
@@ -51,9 +47,3 @@ pub not-every : (t : Reference → Bool) (rs : List Reference) → Fails (every 
 unfolding every some
 not-every t [] = record { is = refl }
 not-every t (r ∷ rs) = either {a = t r} (record { is = refl }) (not-every t rs)
-
--- the outcome beside a record is the outcome
-pub told : (o : Outcome) (new old : Record) → changedBy o new old .outcome ≡ o
-unfolding changedBy
-told Accepted new old = refl
-told (Refused why) new old = refl

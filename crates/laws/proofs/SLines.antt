@@ -21,6 +21,7 @@ use Rattle.keeping.specs.declared.Outcome.{Outcome}
 use Rattle.keeping.specs.declared.Outcome.the-variants as outcome
 use Rattle.keeping.specs.Keeping.{wordsKeeping, outcomeNumber, changedBy, wordsBy}
 use Rattle.keeping.specs.Append.{unspentOf, appended}
+use Rattle.keeping.proofs.Outcomes.{outcome-beside as told}
 use Rattle.timeline.specs.Appending.{appendOutcome}
 use Rattle.timeline.proofs.Kept.{taken, accepted-keeps}
 use Rattle.frames.specs.Fields.{allOnes}
@@ -34,7 +35,6 @@ use Rattle.file.specs.Judging.{File, settledReading, firstTick, laterStanding, 
 use Rattle.laws.specs.Calls.{State, byTick, after}
 use Rattle.laws.specs.Refusals.{lowest, appendRows}
 use Rattle.laws.specs.Lines.{startOf, openingTick, negative, countOf, callOf, reachRows, appendedRows}
-use Rattle.laws.proofs.Rows.{told}
 use Rattle.laws.proofs.Changing.{append}
 use Rattle.laws.proofs.Distances.{Told, tick-far, append-told, reach-told}
 use Rattle.laws.proofs.Reach.{reach-number}

@@ -35,12 +35,12 @@ use Rattle.keeping.specs.Append.{given}
 use Rattle.keeping.proofs.Unspent.{unspent-every, unspent-few}
 use Rattle.timeline.specs.Appending.{appendOutcome}
 use Rattle.timeline.specs.Trimming.{unspentAt, trimOutcome, trimmed, trimAnswer, trimTable}
-use Rattle.timeline.proofs.Kept.{trim-keeps, taken, accepted-keeps}
+use Rattle.timeline.proofs.Kept.{trim-passed, trim-keeps, taken, accepted-keeps}
 use Rattle.laws.specs.Calls.{State, trimAt, appendTo, after}
 use Rattle.laws.specs.History.{StillNeeded, Picked, keptBy}
 use Rattle.laws.specs.Spent.{Keeps, OnlySpent}
 use Rattle.laws.proofs.Calling.{stateFrom, append-done, trim-done}
-use Rattle.laws.proofs.Leaving.{left-kept, trim-room, trim-agreed, trim-small, each-sound, still}
+use Rattle.laws.proofs.Leaving.{left-kept, trim-room, each-sound, still}
 use Rattle.laws.proofs.Listed.{sound-kept, agree}
 
 -- ---- spent
@@ -113,14 +113,14 @@ module _ (s : State) (t : ℕ) (all : List Reference) (joined : EndToStart t all
 module _ (s : State) (c : WideMillis) (o : trimOutcome (s .rec) (s .words) c ≡ Accepted) where
   trim-keeping : Keeps s (after s (trimAt c)) (max (s .rec .clock .0) (c .0)) (keptBy s)
   trim-keeping =
-      let a = trim-agreed (s .rec) (s .words) c o in
-      let f = tests.agreeing (s .rec) (s .words) a in
+      let p = trim-passed (s .rec) (s .words) c o in
+      let f = tests.agreeing (s .rec) (s .words) (p .0) in
       subst⁻¹ (λ x. Keeps s x (max (s .rec .clock .0) (c .0)) (keptBy s)) (trim-done s c o)
       (keeps s (getD (s .words) 0 0) (keptBy s) (kept-join (s .rec .used) (s .words) (f .table)) (f .held .head .some)
       (sound-kept (s .rec .head) (keptBy s) (kept-within (s .rec .used) (s .words) (f .table)) (f .begun))
       (record { 0 = max (s .rec .clock .0) (c .0) }) (s .rec .accepted) (s .rec .next)
-      (trim-keeps (s .rec) (s .words) c a (trim-small (s .rec) (s .words) c o))
-      (trim-room (s .rec) (s .words) a (c .0)))
+      (trim-keeps (s .rec) (s .words) c (p .0) (p .1))
+      (trim-room (s .rec) (s .words) (p .0) (c .0)))
 
   trim-counts : (after s (trimAt c) .rec .accepted ≡ s .rec .accepted) × (after s (trimAt c) .rec .next ≡ s .rec .next)
   trim-counts = (ap (λ x. x .rec .accepted) (trim-done s c o), ap (λ x. x .rec .next) (trim-done s c o))

@@ -10,6 +10,7 @@ use Rattle.units.specs.Limits.{largestSpan}
 use Rattle.agreement.specs.Agreement.{agrees}
 use Rattle.keeping.specs.declared.Outcome.the-variants.{Accepted}
 use Rattle.keeping.specs.Keeping.{outcomeNumber}
+use Rattle.keeping.proofs.Outcomes.{number-accepted}
 use Rattle.timeline.proofs.Kept.{or-none}
 use Rattle.frames.specs.declared.SFields.{SFields}
 use Rattle.window.specs.Ticks.{LeastCount}
@@ -21,7 +22,7 @@ use Rattle.laws.specs.Refusals.{lowest, appendRows}
 use Rattle.laws.specs.Lines.{startOf, negative, countOf, callOf, reachRows, appendedRows}
 use Rattle.laws.specs.Reading.{StandsFor}
 use Rattle.laws.proofs.Changing.{append}
-use Rattle.laws.proofs.NoRow.{number-accepted, append-none, reach-only, reach-if}
+use Rattle.laws.proofs.NoRow.{append-none, reach-only, reach-if}
 
 module _ (x : State) (s : SFields) (agreed : agrees (x .rec) (x .words) ≡ true) (narrow : s .d ≤ largestSpan) where
   abbrev start : WideTick

@@ -14,7 +14,7 @@ use Rattle.window.specs.Limits.{headHeld}
 use Rattle.agreement.specs.declared.refusal.Refusal.the-variants.{OverLimit}
 use Rattle.agreement.specs.Agreement.{agrees}
 use Rattle.keeping.specs.declared.Outcome.the-variants.{Accepted}
-use Rattle.keeping.proofs.Outcomes.{past-if}
+use Rattle.keeping.proofs.Outcomes.{past-if, number-accepted}
 use Rattle.timeline.specs.Opening.{openOutcome}
 use Rattle.frames.specs.declared.Frame.{Frame}
 use Rattle.frames.specs.declared.Frame.the-variants.{Head as HeadFrame, S, End, Clock, Bad}
@@ -27,7 +27,7 @@ use Rattle.laws.specs.Calls.{Call, State, after, afterCalls, opening, ou
 use Rattle.laws.specs.Refusals.{lowest, overLimit}
 use Rattle.laws.specs.Lines.{lineKind, openingTick, negative, callOf, Place, afterHead, afterS, afterNegative, afterEnd, among, Sofar, appendedRows, stopRows, fieldRows, lineRows, lineDistance, taking, Result, accepted, refusedAt, unlessRefused, judged, beginning}
 use Rattle.laws.specs.Reading.{fileFrames, NegativeLast, StandsFor, StandFor, AllAccepted}
-use Rattle.laws.proofs.NoRow.{none-holds, refused-number, number-accepted}
+use Rattle.laws.proofs.NoRow.{none-holds, refused-number}
 use Rattle.laws.proofs.SLines.{Taken, on, off, s-taken}
 use Rattle.laws.proofs.LineByLine.{open-number, head-number, no-over, open-agreed, late, late-timeline, late-number}
 use Rattle.laws.proofs.Standing.{s-only, s-if}

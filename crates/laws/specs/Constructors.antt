@@ -1,6 +1,6 @@
 -- A number from outside becomes a unit by its constructor, which refuses exactly what lies beyond the limit, with the paper's number. And the calls
 -- give that number: an opening the one of the first field, or of the first tick, that is refused; a trim and a verdict the one of their clock, after 2;
--- an append the one of its duration, then of how its start stands; availability of a number over its limit that number's own, after 2, and at a clock
+-- an append the one of its duration, then of how its start stands, and with a trim behind it that of the clock first; availability of a number over its limit that number's own, after 2, and at a clock
 -- after the clock's. Paper: Units; Refusal numbers.
 use Prim.Native.Nat.{ℕ, _≤_}
 use mathlib.Core.Path.{_≡_}
@@ -24,6 +24,7 @@ use Rattle.keeping.specs.Append.{fitOutcome}
 use Rattle.timeline.specs.Opening.{openAnswer}
 use Rattle.timeline.specs.Appending.{appendAnswer}
 use Rattle.timeline.specs.Trimming.{trimAnswer}
+use Rattle.timeline.specs.Pair.{pairAnswer}
 use Rattle.answers.specs.Judgement.{verdictAt}
 use Rattle.answers.specs.Numbers.{verdictNumber}
 use Rattle.lookups.specs.Available.{availabilityIn, availableIn}
@@ -73,6 +74,12 @@ pub record Constructors : Type 0 where
       outcomeNumber (appendAnswer rec ws st d n .outcome) ≡
       firstRefusal
       (disagreement rec ws ∷ spanNumber (spanMade d) ∷ cond (eqb n 0) 3 0 ∷ standingNumber st ∷ outcomeNumber (fitOutcome rec ws d n) ∷ [])
+  -- with a trim behind it, the clock's own comes before what is given
+  pub append-trim : (rec : Record) (ws : List ℕ) (st : Standing) (d n : ℕ) (c : WideMillis) → d ≤ largestSpan →
+      outcomeNumber (pairAnswer rec ws st d n c .outcome) ≡
+      firstRefusal
+      (disagreement rec ws ∷ clockNumber (millisMade (c .0)) ∷ spanNumber (spanMade d) ∷ cond (eqb n 0) 3 0 ∷ standingNumber st ∷
+      outcomeNumber (fitOutcome rec ws d n) ∷ [])
   -- at a clock: 2, then the clock's own
   pub trim : (rec : Record) (ws : List ℕ) (c : WideMillis) →
       outcomeNumber (trimAnswer rec ws c .outcome) ≡ firstRefusal (disagreement rec ws ∷ clockNumber (millisMade (c .0)) ∷ [])

@@ -1,7 +1,7 @@
 -- Demand 1. Every entry point takes any input, and answers it with the paper's number: the lowest whose condition holds, 0 where none does
 -- (the rows of Refusals, and for a file those of Lines). A refused call returns the record as it came and changes no word and no byte,
 -- with these exceptions. A refused opening answers a zero record. A refused reading answers a zero record and the line, and zeroes the
--- table. With 4 and 5 an append and a reading answer the distance, and C's append writes it to out. The part that a span lookup hands back is empty. A verdict, an availability, a full tick and a covered edge give their number
+-- table. With 4 and 5 an append, by itself or with a trim behind it, and a reading answer the distance, and C's append writes it to out. The part that a span lookup hands back is empty. A verdict, an availability, a full tick and a covered edge give their number
 -- and nothing else. Of each function this is said over the contract that the check itself makes of it (Unique says what its parts are,
 -- and has the functions that never refuse). For C the lengths of record and out are judged first.
 -- Paper: Refusal numbers; What a statement must leave no room for.
@@ -42,7 +42,7 @@ use Rattle.file.proofs as file
 use Rattle.writing.proofs as writing
 use Rattle.report.proofs as report
 use Rattle.flonterri.proofs as c
-use Rattle.laws.specs.Refusals.{lowest, isApart, distanceWith, openRows, appendTickRows, appendStampRows, trimRows, verdictRows, wholeRows, availabilityRows, availableRows, touchingRows, writeRows, fullTickRows, edgeRows}
+use Rattle.laws.specs.Refusals.{lowest, isApart, distanceWith, openRows, appendTickRows, appendStampRows, pairRows, trimRows, verdictRows, wholeRows, availabilityRows, availableRows, touchingRows, writeRows, fullTickRows, edgeRows}
 use Rattle.laws.specs.Lines.{judgedFile}
 use Rattle.laws.specs.Unique.{AnyInput}
 
@@ -57,7 +57,7 @@ pub record GivesNumber (n : ℕ) (rows : List (Bool × ℕ)) (left : Type 0) : T
 abbrev pub Changes : Changed → List ℕ → List (Bool × ℕ) → Record → List ℕ → Type 0
 Changes x after rows rec ws = GivesNumber (outcomeNumber (x .outcome)) rows ((x .rec ≡ rec) × (after ≡ ws))
 
--- an append: the same, and with 4 and 5 its distance, of a start that lies so far after the next tick or so far before it
+-- an append, by itself or with a trim behind it: the same, and with 4 and 5 its distance, of a start that lies so far after the next tick or so far before it
 pub record Appends (x : Changed) (after : List ℕ) (rows : List (Bool × ℕ)) (rec : Record) (ws : List ℕ) (ahead behind : ℕ) : Type 0 where
   pub changes : Changes x after rows rec ws
   pub distance : outcomeDistance (x .outcome) ≡ distanceWith (outcomeNumber (x .outcome)) ahead behind
@@ -148,6 +148,10 @@ pub record Demand1 : Type 0 where
       (λ (rec, (table, (stamp, (duration, (count, _))))) x (_, (table′, _)). duration ≤ largestSpan → stamp .0 < 2 ^ 32 →
       Appends x (now table′) (appendStampRows rec (now table) stamp duration count) rec (now table)
       (less32 (stamp .0) (rec .next .0)) (less32 (rec .next .0) (stamp .0)))
+  pub append-trim : Answers timeline.append_trim.Reads.Asked timeline.append_trim.Reads.Learnt
+      (λ (rec, (table, (stamp, (duration, (count, (clock, _)))))) x (_, (table′, _)). duration ≤ largestSpan → stamp .0 < 2 ^ 32 →
+      Appends x (now table′) (pairRows rec (now table) stamp duration count clock) rec (now table)
+      (less32 (stamp .0) (rec .next .0)) (less32 (rec .next .0) (stamp .0)))
   pub trim : Answers timeline.trim.Reads.Asked timeline.trim.Reads.Learnt
       (λ (rec, (table, (clock, _))) x (_, (table′, _)). Changes x (now table′) (trimRows rec (now table) clock) rec (now table))
   -- the calls that look: no word of the table can change
@@ -200,6 +204,11 @@ pub record Demand1 : Type 0 where
       (λ (rec, (table, (stamp, (duration, (count, (out, _)))))) x (rec′, (table′, (_, (_, (_, (out′, _)))))). duration ≤ largestSpan → stamp < 2 ^ 32 →
       AppendsFromC x (now rec) (now table) (now out) (now rec′) (now table′) (now out′)
       (appendStampRows (recordOf (now rec)) (now table) (record { 0 = stamp }) duration count)
+      (less32 stamp (recordOf (now rec) .next .0)) (less32 (recordOf (now rec) .next .0) stamp))
+  pub c-append-trim : Answers c.flonterri_append_trim.Reads.Asked c.flonterri_append_trim.Reads.Learnt
+      (λ (rec, (table, (stamp, (duration, (count, (clock, (out, _))))))) x (rec′, (table′, (_, (_, (_, (_, (out′, _))))))). duration ≤ largestSpan → stamp < 2 ^ 32 →
+      AppendsFromC x (now rec) (now table) (now out) (now rec′) (now table′) (now out′)
+      (pairRows (recordOf (now rec)) (now table) (record { 0 = stamp }) duration count (record { 0 = clock }))
       (less32 stamp (recordOf (now rec) .next .0)) (less32 (recordOf (now rec) .next .0) stamp))
   pub c-trim : Answers c.flonterri_trim.Reads.Asked c.flonterri_trim.Reads.Learnt
       (λ (rec, (table, (clock, _))) x (rec′, (table′, _)).

@@ -11,6 +11,7 @@ use lib.ListN.{replicate}
 use Rattle.units.specs.declared.Distance.{Distance}
 use Rattle.units.specs.declared.Stamp.{Stamp}
 use Rattle.units.specs.declared.Tick.{Tick}
+use Rattle.units.specs.declared.WideMillis.{WideMillis}
 use Rattle.units.specs.declared.WideTick.{WideTick}
 use Rattle.units.specs.declared.standing.Standing.the-variants.{Gap, Overlap}
 use Rattle.units.specs.Exactly.{ExactlyWhen}
@@ -23,6 +24,7 @@ use Rattle.keeping.specs.declared.Outcome.the-variants.{Refused}
 use Rattle.keeping.specs.Keeping.{outcomeNumber, outcomeDistance}
 use Rattle.timeline.specs.Opening.{zeroRecord}
 use Rattle.timeline.specs.Appending.{appendAnswer}
+use Rattle.timeline.specs.Pair.{pairAnswer}
 use Rattle.frames.specs.declared.SFields.{SFields}
 use Rattle.frames.specs.declared.Frame.the-variants.{S}
 use Rattle.hex.specs.Ascii.{ascii}
@@ -78,11 +80,13 @@ pub record DistanceRight : Type 0 where
   -- a stamp's overlap whose distance passes the next tick names no tick at all
   pub no-tick : (rec : Record) (ws : List ℕ) (s : Stamp) (d : Distance) → s .0 < 2 ^ 32 → agrees rec ws ≡ true →
       stampStanding s (rec .next) ≡ Overlap d → rec .next .0 < d .0 → fullTickIn rec ws s ≡ Nowhere
-  -- a distance comes with 4 and 5 alone: of an append by full tick, by stamp, and of reading any file. Which one it is stands in `Refusals`
-  -- (append-distance, stamp-distance) and in `ReadingRight` (distance)
+  -- a distance comes with 4 and 5 alone: of an append by full tick, by stamp, with a trim behind it, and of reading any file. Which one it is
+  -- stands in `Refusals` (append-distance, stamp-distance, pair-distance) and in `ReadingRight` (distance)
   pub append : (rec : Record) (ws : List ℕ) (start : WideTick) (d n : ℕ) → OnlyApart (appendAnswer rec ws (tickStanding start (rec .next)) d n .outcome)
   pub append-stamp : (rec : Record) (ws : List ℕ) (s : Stamp) (d n : ℕ) → s .0 < 2 ^ 32 →
       OnlyApart (appendAnswer rec ws (stampStanding s (rec .next)) d n .outcome)
+  pub append-trim : (rec : Record) (ws : List ℕ) (s : Stamp) (d n : ℕ) (c : WideMillis) → s .0 < 2 ^ 32 →
+      OnlyApart (pairAnswer rec ws (stampStanding s (rec .next)) d n c .outcome)
   pub read : (bytes came : List ℕ) → OnlyApart (readAnswer bytes came .outcome)
   -- the first S of a file has none: it opens the timeline where it starts
   pub first : (came : List ℕ) (x : Sofar) (s : SFields) → isFirst x ≡ true → lineDistance came x (S s) (lowest (sRows came x s)) ≡ 0

@@ -1,4 +1,4 @@
--- Demand 3. From an opening on, however appends and trims were mixed, and whichever of them were refused: the record counts
+-- Demand 3. From an opening on, however appends and trims were mixed, by themselves or as pairs in one call, and whichever of them were refused: the record counts
 -- just what was accepted, and the table holds, in order, with their first numbers and times, exactly those accepted references
 -- that are needed at the greatest accepted clock or at some later whole millisecond. Two lists of calls with the same accepted
 -- appends in the same order and the same greatest accepted clock end in the same record and table.

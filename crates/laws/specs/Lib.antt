@@ -8,6 +8,7 @@ pub mod Division
 pub mod Edge
 pub mod History
 pub mod Lines
+pub mod Pairs
 pub mod Reading
 pub mod Refusals
 pub mod Spent

@@ -1,5 +1,5 @@
 -- Given exactly when. Each call gives the lowest number whose condition holds, and 0 where none does, for any record, table and
--- arguments: so it refuses what it should, and nothing else. A call is a table with a row for each of its numbers, in the words of
+-- arguments: so it refuses what it should, and nothing else. An append with a trim behind it has 10 before the others from 3 on. A call is a table with a row for each of its numbers, in the words of
 -- the paper's column. An append's duration is one of 32 bits, as its type says. With 4 and with 5 comes how far the start lies from the
 -- next tick, and with no other number. The rows of a file's lines stand in Lines.
 -- Paper: Refusal numbers.
@@ -28,6 +28,7 @@ use Rattle.keeping.specs.Append.{given}
 use Rattle.timeline.specs.Opening.{openAnswer}
 use Rattle.timeline.specs.Appending.{appendAnswer}
 use Rattle.timeline.specs.Trimming.{trimAnswer}
+use Rattle.timeline.specs.Pair.{pairAnswer}
 use Rattle.answers.specs.Judgement.{verdictAt, verdictWhole}
 use Rattle.answers.specs.Edge.{coveredEdge}
 use Rattle.answers.specs.Numbers.{verdictNumber, edgeNumber}
@@ -73,10 +74,9 @@ abbrev pub noRunLeft : Record → List ℕ → ℕ → ℕ → Bool
 noRunLeft rec ws d n =
     ltb 0 (length (unspent (rec .head) (rec .clock .0) (given rec d n))) && (needsRun (rec .used) ws d && eqb (rec .used) (capacity ws))
 
--- an append, by whether its start lies after or before the next tick
-abbrev pub appendRows : Record → List ℕ → Bool → Bool → ℕ → ℕ → List (Bool × ℕ)
-appendRows rec ws after before d n =
-    (not (agrees rec ws), 2) ∷
+-- what an append gives, by whether its start lies after or before the next tick
+abbrev pub givenRows : Record → List ℕ → Bool → Bool → ℕ → ℕ → List (Bool × ℕ)
+givenRows rec ws after before d n =
     (eqb d 0 || eqb n 0, 3) ∷
     (after, 4) ∷
     (before, 5) ∷
@@ -86,23 +86,34 @@ appendRows rec ws after before d n =
     (noRunLeft rec ws d n, 9) ∷
     []
 
+abbrev pub appendRows : Record → List ℕ → Bool → Bool → ℕ → ℕ → List (Bool × ℕ)
+appendRows rec ws after before d n = (not (agrees rec ws), 2) ∷ givenRows rec ws after before d n
+
 -- an append by full tick
 abbrev pub appendTickRows : Record → List ℕ → WideTick → ℕ → ℕ → List (Bool × ℕ)
 appendTickRows rec ws start d n = appendRows rec ws (ltb (rec .next .0) (start .0)) (ltb (start .0) (rec .next .0)) d n
 
--- an append by stamp: stamp less next tick, modulo 2^32, is a gap from 1 to 2^31 - 1, and from 2^31 on an overlap
+-- of a stamp: stamp less next tick, modulo 2^32, is a gap from 1 to 2^31 - 1, and from 2^31 on an overlap
+abbrev pub stampAfter : Record → Stamp → Bool
+stampAfter rec stamp = ltb 0 (less32 (stamp .0) (rec .next .0)) && ltb (less32 (stamp .0) (rec .next .0)) (2 ^ 31)
+
+abbrev pub stampBefore : Record → Stamp → Bool
+stampBefore rec stamp = leb (2 ^ 31) (less32 (stamp .0) (rec .next .0))
+
+-- an append by stamp
 abbrev pub appendStampRows : Record → List ℕ → Stamp → ℕ → ℕ → List (Bool × ℕ)
-appendStampRows rec ws stamp d n =
-    appendRows rec ws
-    (ltb 0 (less32 (stamp .0) (rec .next .0)) && ltb (less32 (stamp .0) (rec .next .0)) (2 ^ 31))
-    (leb (2 ^ 31) (less32 (stamp .0) (rec .next .0)))
-    d n
+appendStampRows rec ws stamp d n = appendRows rec ws (stampAfter rec stamp) (stampBefore rec stamp) d n
 
 abbrev pub openRows : Head → Tick → List (Bool × ℕ)
 openRows h t = (overLimit h t, 1) ∷ []
 
 abbrev pub trimRows : Record → List ℕ → WideMillis → List (Bool × ℕ)
 trimRows rec ws c = (not (agrees rec ws), 2) ∷ (ltb largestMillis (c .0), 10) ∷ []
+
+-- an append by stamp and then a trim: the clock comes before what is given
+abbrev pub pairRows : Record → List ℕ → Stamp → ℕ → ℕ → WideMillis → List (Bool × ℕ)
+pairRows rec ws stamp d n c =
+    (not (agrees rec ws), 2) ∷ (ltb largestMillis (c .0), 10) ∷ givenRows rec ws (stampAfter rec stamp) (stampBefore rec stamp) d n
 
 -- ---- the calls that look
 
@@ -147,6 +158,12 @@ pub record Refusals : Type 0 where
       outcomeDistance o ≡ distanceWith (outcomeNumber o) (start .0 - rec .next .0) (rec .next .0 - start .0)
   pub stamp-distance : (rec : Record) (ws : List ℕ) (stamp : Stamp) (d n : ℕ) → stamp .0 < 2 ^ 32 →
       let o = appendAnswer rec ws (stampStanding stamp (rec .next)) d n .outcome in
+      outcomeDistance o ≡ distanceWith (outcomeNumber o) (less32 (stamp .0) (rec .next .0)) (less32 (rec .next .0) (stamp .0))
+  -- an append and then a trim in one call
+  pub append-trim : (rec : Record) (ws : List ℕ) (stamp : Stamp) (d n : ℕ) (c : WideMillis) → d ≤ largestSpan →
+      outcomeNumber (pairAnswer rec ws (stampStanding stamp (rec .next)) d n c .outcome) ≡ lowest (pairRows rec ws stamp d n c)
+  pub pair-distance : (rec : Record) (ws : List ℕ) (stamp : Stamp) (d n : ℕ) (c : WideMillis) → stamp .0 < 2 ^ 32 →
+      let o = pairAnswer rec ws (stampStanding stamp (rec .next)) d n c .outcome in
       outcomeDistance o ≡ distanceWith (outcomeNumber o) (less32 (stamp .0) (rec .next .0)) (less32 (rec .next .0) (stamp .0))
   pub trim : (rec : Record) (ws : List ℕ) (c : WideMillis) → outcomeNumber (trimAnswer rec ws c .outcome) ≡ lowest (trimRows rec ws c)
   pub verdict : (rec : Record) (ws : List ℕ) (c : WideMillis) → verdictNumber (verdictAt rec ws c) ≡ lowest (verdictRows rec ws c)

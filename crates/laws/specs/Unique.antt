@@ -60,6 +60,10 @@ record-and-table = λ (rec, (table, _)). (now rec, now table)
 abbrev pub appended : {A B P Q S C R : Type 0} → RefT A × (RefT B × (P × (Q × (S × (RefT C × R))))) → A × B × C
 appended = λ (rec, (table, (_, (_, (_, (out, _)))))). (now rec, now table, now out)
 
+-- C: record, table, start, duration, count, clock, out
+abbrev pub paired : {A B P Q S T C R : Type 0} → RefT A × (RefT B × (P × (Q × (S × (T × (RefT C × R)))))) → A × B × C
+paired = λ (rec, (table, (_, (_, (_, (_, (out, _))))))). (now rec, now table, now out)
+
 -- C: bytes, record, table, out
 abbrev pub record-table-out : {P A B C R : Type 0} → P × (RefT A × (RefT B × (RefT C × R))) → A × B × C
 record-table-out = λ (_, (rec, (table, (out, _)))). (now rec, now table, now out)
@@ -105,6 +109,7 @@ pub record Entries : Type 0 where
   pub opening : Lending timeline.«open».Reads.Asked timeline.«open».Reads.Learnt opened
   pub append : Lending timeline.append.Reads.Asked timeline.append.Reads.Learnt table
   pub append-stamp : Lending timeline.append_stamp.Reads.Asked timeline.append_stamp.Reads.Learnt table
+  pub append-trim : Lending timeline.append_trim.Reads.Asked timeline.append_trim.Reads.Learnt table
   pub trim : Lending timeline.trim.Reads.Asked timeline.trim.Reads.Learnt table
   pub zero-record : Entry timeline.zero_record.Reads.Asked timeline.zero_record.Reads.Learnt
   -- answers
@@ -152,6 +157,7 @@ pub record Entries : Type 0 where
   pub c-open : Lending c.flonterri_open.Reads.Asked c.flonterri_open.Reads.Learnt record-and-table
   pub c-append : Lending c.flonterri_append.Reads.Asked c.flonterri_append.Reads.Learnt appended
   pub c-append-stamp : Lending c.flonterri_append_stamp.Reads.Asked c.flonterri_append_stamp.Reads.Learnt appended
+  pub c-append-trim : Lending c.flonterri_append_trim.Reads.Asked c.flonterri_append_trim.Reads.Learnt paired
   pub c-trim : Lending c.flonterri_trim.Reads.Asked c.flonterri_trim.Reads.Learnt record-and-table
   pub c-verdict : Lending c.flonterri_verdict.Reads.Asked c.flonterri_verdict.Reads.Learnt out-after-one
   pub c-verdict-whole : Lending c.flonterri_verdict_whole.Reads.Asked c.flonterri_verdict_whole.Reads.Learnt out

@@ -12,7 +12,7 @@ use Rattle.units.specs.declared.Tick.{Tick}
 use Rattle.units.specs.declared.WideMillis.{WideMillis}
 use Rattle.units.specs.declared.standing.Standing.{Standing}
 use Rattle.units.specs.declared.standing.Standing.the-variants.{Joins, Gap, Overlap}
-use Rattle.units.specs.Limits.{largestTick, largestSpan, largestMillis, tickHeld}
+use Rattle.units.specs.Limits.{largestTick, largestSpan, largestMillis, tickHeld, clockHeld}
 use Rattle.window.specs.declared.Head.{Head}
 use Rattle.window.specs.Limits.{headHeld}
 use Rattle.window.proofs.Limits.{held-is}
@@ -33,13 +33,13 @@ use Rattle.keeping.specs.declared.Outcome.{Outcome}
 use Rattle.keeping.specs.declared.Outcome.the-variants.{Accepted, Refused}
 use Rattle.keeping.specs.Append.{given, allOf, unspentOf, roomOutcome, fitOutcome, appended}
 use Rattle.keeping.specs.Steps.{Fitting}
-use Rattle.keeping.specs.Keeping.{unspent, wordsKeeping}
+use Rattle.keeping.specs.Keeping.{unspent, wordsKeeping, changedBy, wordsBy}
 use Rattle.keeping.proofs.Unspent.{unspent-append, unspent-every}
 use Rattle.keeping.proofs.Kept.{step-agrees, left-runs, append-keeps}
 use Rattle.keeping.proofs.Outcomes.{refused-not, past-if, past-unless}
 use Rattle.timeline.specs.Opening.{freshRecord, openOutcome}
-use Rattle.timeline.specs.Trimming.{clockRaised, unspentAt, trimmed}
-use Rattle.timeline.specs.Appending.{unjoined_else_, appendOutcome}
+use Rattle.timeline.specs.Trimming.{clockRaised, unspentAt, trimmed, trimOutcome, trimAnswer, trimTable}
+use Rattle.timeline.specs.Appending.{unjoined_else_, appendOutcome, appendAnswer, appendTable}
 
 -- ---- opening
 
@@ -110,6 +110,23 @@ module _ (rec : Record) (ws : List ℕ) (c : WideMillis) (a : agrees rec ws ≡ 
   -- the greatest clock never falls
   pub trim-clock-grows : rec .clock .0 ≤ trimmed rec ws (c .0) .clock .0
   trim-clock-grows = le-max-left (rec .clock .0) (c .0)
+
+-- what an accepted trim has passed
+pub trim-passed : (rec : Record) (ws : List ℕ) (c : WideMillis) → trimOutcome rec ws c ≡ Accepted → (agrees rec ws ≡ true) × (c .0 ≤ largestMillis)
+unfolding trimOutcome
+trim-passed rec ws c o =
+    let a = past-if (agrees rec ws) (cond (clockHeld c) Accepted (Refused refusal.ClockLimit)) refusal.Disagreement o in
+    (a .0, leb-true (c .0) largestMillis (past-if (clockHeld c) Accepted refusal.ClockLimit (a .1) .0))
+
+-- accepted or refused, it leaves what agrees
+pub trim-leaves : (rec : Record) (ws : List ℕ) (c : WideMillis) → agrees rec ws ≡ true → agrees (trimAnswer rec ws c .rec) (trimTable rec ws c) ≡ true
+unfolding changedBy wordsBy
+trim-leaves rec ws c a = go (trimOutcome rec ws c) refl
+  where
+    go : (o : Outcome) → trimOutcome rec ws c ≡ o →
+        agrees (changedBy o (trimmed rec ws (c .0)) rec .rec) (wordsBy o (wordsKeeping ws (unspentAt rec ws (c .0))) ws) ≡ true
+    go Accepted e = trim-keeps rec ws c a (trim-passed rec ws c e .1)
+    go (Refused why) e = a
 
 -- ---- an append that is accepted
 
@@ -199,6 +216,17 @@ module _ (rec : Record) (ws : List ℕ) (st : Standing) (d n : ℕ) (narrow : d 
         ap₂ (λ (m u : ℕ). record { head = rec .head; accepted = rec .accepted + n; dropped = rec .dropped + m; next = record { 0 = rec .next .0 + d * n }; clock = rec .clock; used = u })
         out
         (ap runsFor same-left ∙ runs-for-kept (rec .used) ws (f .table))
+
+-- accepted or refused, an append leaves what agrees
+pub append-leaves : (rec : Record) (ws : List ℕ) (st : Standing) (d n : ℕ) → d ≤ largestSpan → agrees rec ws ≡ true →
+    agrees (appendAnswer rec ws st d n .rec) (appendTable rec ws st d n) ≡ true
+unfolding changedBy wordsBy
+append-leaves rec ws st d n narrow a = go (appendOutcome rec ws st d n) refl
+  where
+    go : (o : Outcome) → appendOutcome rec ws st d n ≡ o →
+        agrees (changedBy o (appended rec ws d n) rec .rec) (wordsBy o (wordsKeeping ws (unspentOf rec ws d n)) ws) ≡ true
+    go Accepted e = accepted-keeps rec ws st d n narrow e
+    go (Refused why) e = a
 
 -- two agreeing tables of one length that keep the same references are the same words
 pub same-table : (rec other : Record) (ws vs : List ℕ) → agrees rec ws ≡ true → agrees other vs ≡ true → length ws ≡ length vs → kept rec ws ≡ kept other vs → ws ≡ vs

@@ -1,11 +1,10 @@
 -- A trim of an agreeing record and table: what is spent stands in front, and the record counts it.
 use mathlib.Core.Path.{_≡_, sym, ap, ap₂, subst, subst⁻¹, _∙_}
-use mathlib.Core.Bool.{Bool, true, false, cond, not}
+use mathlib.Core.Bool.{Bool, true, false, not}
 use mathlib.Core.List.{List}
 use Prim.Native.Nat.{ℕ, _+_, _-_, _≤_, _<_, max}
 use native.Mathlib.Nat.{max-eq-left, max-eq-right, max-le, le-of-lt}
 use native.Mathlib.Omega.{arith}
-use borrow.Author.Tests.{leb-true}
 use lib.ListN.{length, getD, drop, length-drop}
 use mir.Syntax.{w64}
 use mir.Val.{Fits}
@@ -13,9 +12,7 @@ use Rattle.units.specs.declared.Millis.{Millis}
 use Rattle.units.specs.declared.MillisMade.{MillisMade}
 use Rattle.units.specs.declared.MillisMade.the-variants as millis
 use Rattle.units.specs.declared.WideMillis.{WideMillis}
-use Rattle.units.specs.Limits.{largestMillis, millisMade, clockHeld}
-use Rattle.units.proofs.Guards.{refused, allowed}
-use Rattle.units.proofs.Makers.{milliseconds}
+use Rattle.units.specs.Limits.{largestMillis, millisMade}
 use Rattle.window.specs.declared.Passed.{Passed}
 use Rattle.window.specs.Ticks.{EndsPassed}
 use Rattle.runs.specs.Encoding.{runsFor}
@@ -29,6 +26,7 @@ use Rattle.keeping.specs.Keeping.{wordsKeeping}
 use Rattle.keeping.specs.Steps.{countPassed}
 use Rattle.keeping.proofs.Unspent.{count-most, unspent-is}
 use Rattle.timeline.specs.Trimming.{unspentAt, trimmed, trimOutcome}
+use Rattle.timeline.proofs.Clocks.{clock-is, disagrees, over, within}
 
 module _ (a b : Millis) where
   pub greater-second : a .0 < b .0 → b ≡ record { 0 = max (a .0) (b .0) }
@@ -42,35 +40,24 @@ module _ (a b : Millis) where
 module _ (rec : Record) (ws : List ℕ) (c : WideMillis) (t : Bool) (e : t ≡ agrees rec ws) where
   pub trim-disagrees : not t ≡ true → trimOutcome rec ws c ≡ Refused Disagreement
   unfolding trimOutcome
-  trim-disagrees n = sym (refused t _ _ _ e n)
+  trim-disagrees n = disagrees rec ws c Accepted t e n
 
   module _ (n : not t ≡ false) (made : MillisMade) (k : made ≡ millisMade (c .0)) where
-    by-clock : (b : Bool) → clockHeld c ≡ b → trimOutcome rec ws c ≡ cond b Accepted (Refused ClockLimit)
-    unfolding trimOutcome
-    by-clock b j = sym (allowed t _ _ _ _ e n (sym (ap (λ x. cond x Accepted (Refused ClockLimit)) j)))
-
     pub trim-over : made ≡ millis.Refused → trimOutcome rec ws c ≡ Refused ClockLimit
-    trim-over m = by-clock false (milliseconds .beyond (c .0) made k m)
+    unfolding trimOutcome
+    trim-over m = over rec ws c Accepted t e n made k m
 
     module _ (at : Millis) (m : made ≡ millis.Made at) where
-      held : clockHeld c ≡ true
-      held = milliseconds .within (c .0) made at k m
-
-      is : at ≡ record { 0 = c .0 }
-      is = milliseconds .is (c .0) made at k m
-
       pub trim-accepted : trimOutcome rec ws c ≡ Accepted
-      trim-accepted = by-clock true held
-
-      pub trim-clock : at .0 ≤ largestMillis
-      trim-clock = subst⁻¹ (λ (x : Millis). x .0 ≤ largestMillis) is (leb-true (c .0) largestMillis held)
+      unfolding trimOutcome
+      trim-accepted = within rec ws c Accepted t e n made k at m
 
       -- what was done at the clock that was made was done at the one given
       pub trim-made : (r : Record) → r ≡ trimmed rec ws (at .0) → r ≡ trimmed rec ws (c .0)
-      trim-made r f = f ∙ ap (λ (x : Millis). trimmed rec ws (x .0)) is
+      trim-made r f = f ∙ ap (λ (x : Millis). trimmed rec ws (x .0)) (clock-is c made k at m)
 
       pub trim-left : (vs : List ℕ) → vs ≡ wordsKeeping ws (unspentAt rec ws (at .0)) → vs ≡ wordsKeeping ws (unspentAt rec ws (c .0))
-      trim-left vs f = f ∙ ap (λ (x : Millis). wordsKeeping ws (unspentAt rec ws (x .0))) is
+      trim-left vs f = f ∙ ap (λ (x : Millis). wordsKeeping ws (unspentAt rec ws (x .0))) (clock-is c made k at m)
 
 -- ---- the step
 

@@ -1,3 +1,4 @@
 pub mod Opening
 pub mod Appending
 pub mod Trimming
+pub mod Pair

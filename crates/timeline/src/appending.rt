@@ -16,7 +16,7 @@ use units::Standing;
 use units::WideTick;
 
 // Inner: callers show that record and table agree. Judged from 3 on, by how the start stands.
-fn append_standing(
+pub(crate) fn append_standing(
     rec: Record,
     table: &mut [u64],
     standing: Standing,

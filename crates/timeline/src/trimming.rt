@@ -26,7 +26,7 @@ fn greater(a: Millis, b: Millis) -> Millis
 }
 
 // Inner: callers show that record and table agree and that the clock is held.
-fn trim_agreeing(rec: Record, table: &mut [u64], clock: Millis) -> Record
+pub(crate) fn trim_agreeing(rec: Record, table: &mut [u64], clock: Millis) -> Record
     requires { ⌜ (agrees rec (now table) ≡ true) × (clock .0 ≤ largestMillis) ⌝ }
     ensures { λ r. ⌜ r ≡ trimmed rec (now (table .entry)) (clock .0) ⌝ }
     ensures { λ _. ⌜ now (table .exit) ≡ wordsKeeping (now (table .entry)) (unspentAt rec (now (table .entry)) (clock .0)) ⌝ }

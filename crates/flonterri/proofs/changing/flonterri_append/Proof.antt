@@ -1,6 +1,7 @@
 -- `flonterri_append` meets its contract: refused for a length, or the append's own answer and its distance.
 use borrow.Author.Needs.{needs}
 use Rattle.units.specs.Standing.{tickStanding}
+use Rattle.timeline.specs.Appending.{appendAnswer, appendTable}
 use Rattle.flonterri.specs.Face.{appends}
 use Rattle.flonterri.proofs.Lengths.{first-right, second-right}
 use Rattle.flonterri.proofs.Facing.{leaves-nothing, appended}
@@ -24,8 +25,10 @@ returns-2 c =
     let made = call .before .before in
     let test = made .before .before in
     let a = test .before .before .before .before .before .args in
+    let ts = a .table .now in
     let law =
-    appended (a .«record» .now) (a .table .now) (a .out .now) (tickStanding (record { 0 = a .start })) (a .duration) (a .count) _
+    appended (a .«record» .now) ts (a .out .now) (λ rec. appendAnswer rec ts (tickStanding (record { 0 = a .start }) (rec .next)) (a .duration) (a .count))
+    (λ rec. appendTable rec ts (tickStanding (record { 0 = a .start }) (rec .next)) (a .duration) (a .count)) _
     (test .before .wrong-length .ensures) (test .if1 .left) _ (made .record-of .ensures) _ (call .append .ensures .0)
     in
     law _ _ _ _ (gave .give-appended .ensures .0) (gave .give-appended .ensures .1 .0) (call .append .ensures .1) (gave .give-appended .ensures .1 .1)

@@ -1,8 +1,11 @@
 -- `flonterri_append_stamp` meets its contract: refused for a length, or the append's own answer and its distance.
 use borrow.Author.Needs.{needs}
-use Rattle.units.specs.declared.Tick.{Tick}
-use Rattle.units.specs.declared.standing.Standing.{Standing}
+use Prim.Native.Nat.{ℕ}
+use mathlib.Core.List.{List}
 use Rattle.units.specs.Standing.{stampStanding}
+use Rattle.agreement.specs.declared.Record.{Record}
+use Rattle.keeping.specs.declared.Changed.{Changed}
+use Rattle.timeline.specs.Appending.{appendAnswer, appendTable}
 use Rattle.flonterri.specs.Face.{appendsStamp}
 use Rattle.flonterri.proofs.Lengths.{first-right, second-right}
 use Rattle.flonterri.proofs.Facing.{leaves-nothing, append-number, append-words, append-table, append-out}
@@ -29,13 +32,12 @@ returns-2 c =
     let ws = a .«record» .now in
     let ts = a .table .now in
     let out = a .out .now in
-    let st : Tick → Standing = stampStanding (record { 0 = a .stamp }) in
-    let d = a .duration in
-    let n = a .count in (
-      search (append-number ws ts out st d n, test, made, call, gave),
+    let f : Record → Changed = λ rec. appendAnswer rec ts (stampStanding (record { 0 = a .stamp }) (rec .next)) (a .duration) (a .count) in
+    let g : Record → List ℕ = λ rec. appendTable rec ts (stampStanding (record { 0 = a .stamp }) (rec .next)) (a .duration) (a .count) in (
+      search (append-number ws ts out f g, test, made, call, gave),
       (
-        search (append-words ws ts out st d n, test, made, call, gave),
-        (search (append-table ws ts out st d n, test, made, call), search (append-out ws ts out st d n, test, made, call, gave)),
+        search (append-words ws ts out f g, test, made, call, gave),
+        (search (append-table ws ts out f g, test, made, call), search (append-out ws ts out f g, test, made, call, gave)),
       ),
     )
 
