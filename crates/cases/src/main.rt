@@ -39,7 +39,7 @@ fn head(s: [u64; PLACES]) -> HeadFields {
 
 fn changes(name: u8) -> bool {
     match name {
-        b'o' | b'a' | b's' | b't' => true,
+        b'o' | b'a' | b's' | b't' | b'p' => true,
         _ => false,
     }
 }
@@ -54,6 +54,14 @@ fn change(name: u8, rec: Record, table: &mut [u64], s: [u64; PLACES]) -> Changed
     match name {
         b'a' => timeline::append(rec, table, WideTick(at), duration, count),
         b's' => timeline::append_stamp(rec, table, Stamp(low(at)), duration, count),
+        b'p' => timeline::append_trim(
+            rec,
+            table,
+            Stamp(low(at)),
+            duration,
+            count,
+            WideMillis(s[4]),
+        ),
         _ => timeline::trim(rec, table, WideMillis(at)),
     }
 }

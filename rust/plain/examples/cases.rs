@@ -32,6 +32,7 @@ fn change(name: &str, record: &mut [u64], table: &mut [u64], numbers: Numbers) -
         "append" => face::append(record, table, a, b as u32, c as u32, &mut out),
         "stamp" => face::append_stamp(record, table, a as u32, b as u32, c as u32, &mut out),
         "trim" => face::trim(record, table, a),
+        "pair" => face::append_trim(record, table, a as u32, b as u32, c as u32, d, &mut out),
         _ => return None,
     };
     Some(format!("{}{}", number, by(Distance::new(out[0]))))
