@@ -1,7 +1,7 @@
 -- A number from outside becomes a unit by its constructor, which refuses exactly what lies beyond the limit, with the paper's number. And the calls
 -- give that number: an opening the one of the first field, or of the first tick, that is refused; a trim and a verdict the one of their clock, after 2;
--- an append the one of its duration, then of how its start stands, and with a trim behind it that of the clock first; availability of a number over its limit that number's own, after 2, and at a clock
--- after the clock's. Paper: Units; Refusal numbers.
+-- an append the one of its duration, then of how its start stands, and with a trim behind it that of the clock first; availability of a number over
+-- its limit that number's own, after 2, and at a clock after the clock's. Paper: Units; Refusal numbers.
 use Prim.Native.Nat.{ℕ, _≤_}
 use mathlib.Core.Path.{_≡_}
 use mathlib.Core.Bool.{cond}

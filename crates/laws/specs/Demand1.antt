@@ -1,8 +1,9 @@
--- Demand 1. Every entry point takes any input, and answers it with the paper's number: the lowest whose condition holds, 0 where none does
+-- Demand 1. Every entry point takes any input, and answers it with the paper's number: the first whose condition holds, 0 where none does
 -- (the rows of Refusals, and for a file those of Lines). A refused call returns the record as it came and changes no word and no byte,
 -- with these exceptions. A refused opening answers a zero record. A refused reading answers a zero record and the line, and zeroes the
--- table. With 4 and 5 an append, by itself or with a trim behind it, and a reading answer the distance, and C's append writes it to out. The part that a span lookup hands back is empty. A verdict, an availability, a full tick and a covered edge give their number
--- and nothing else. Of each function this is said over the contract that the check itself makes of it (Unique says what its parts are,
+-- table. With 4 and 5 an append, by itself or with a trim behind it, and a reading answer the distance, and C's append writes it to
+-- out. The part that a span lookup hands back is empty. A verdict, an availability, a full tick and a covered edge give their number and
+-- nothing else. Of each function this is said over the contract that the check itself makes of it (Unique says what its parts are,
 -- and has the functions that never refuse). For C the lengths of record and out are judged first.
 -- Paper: Refusal numbers; What a statement must leave no room for.
 use Prim.Native.Nat.{ℕ, _-_, _^_, _≤_, _<_}

@@ -1,7 +1,7 @@
--- Demand 3. From an opening on, however appends and trims were mixed, by themselves or as pairs in one call, and whichever of them were refused: the record counts
--- just what was accepted, and the table holds, in order, with their first numbers and times, exactly those accepted references
--- that are needed at the greatest accepted clock or at some later whole millisecond. Two lists of calls with the same accepted
--- appends in the same order and the same greatest accepted clock end in the same record and table.
+-- Demand 3. From an opening on, however appends and trims were mixed, by themselves or as pairs in one call, and whichever of
+-- them were refused: the record counts just what was accepted, and the table holds, in order, with their first numbers and times,
+-- exactly those accepted references that are needed at the greatest accepted clock or at some later whole millisecond. Two lists
+-- of calls with the same accepted appends in the same order and the same greatest accepted clock end in the same record and table.
 -- Paper: Record and table; Append and trim; What a statement must leave no room for.
 use Prim.Native.Nat.{ℕ, _+_, _≤_}
 use mathlib.Core.Path.{_≡_}

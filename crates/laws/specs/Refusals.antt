@@ -1,8 +1,8 @@
--- Given exactly when. Each call gives the lowest number whose condition holds, and 0 where none does, for any record, table and
--- arguments: so it refuses what it should, and nothing else. An append with a trim behind it has 10 before the others from 3 on. A call is a table with a row for each of its numbers, in the words of
--- the paper's column. An append's duration is one of 32 bits, as its type says. With 4 and with 5 comes how far the start lies from the
--- next tick, and with no other number. The rows of a file's lines stand in Lines.
--- Paper: Refusal numbers.
+-- Given exactly when. A call is a table with a row for each of its numbers, in the words of the paper's column, and gives the number of the first
+-- row whose condition holds, and 0 where none does, for any record, table and arguments: so it refuses what it should, and nothing else. The rows
+-- stand in the order of their numbers, but for an append with a trim behind it, which has 10 before 3. An append's duration is one of 32 bits, as
+-- its type says. With 4 and with 5 comes how far the start lies from the next tick, and with no other number. The rows of a file's lines stand
+-- in Lines. Paper: Refusal numbers; document 02, W-208.
 use Prim.Native.Nat.{ℕ, _+_, _-_, _*_, _^_, _≤_, _<_}
 use mathlib.Core.Path.{_≡_}
 use mathlib.Core.Bool.{Bool, false, cond, not, _&&_, _||_}
