@@ -1,6 +1,6 @@
 /* Case B of the paper: five references of 4000 ticks at timescale 1000, behind a window of 10 seconds. Then the
- * same with an update period of two seconds, which the references must cover past the clock too.
- * What it must print stands in case_b.txt. */
+ * same with an update period of two seconds, which the references must cover past the clock too; and the same as a
+ * packager sends them, by one call for each. What it must print stands in case_b.txt. */
 #include <inttypes.h>
 #include <stdint.h>
 #include <stdio.h>
@@ -25,17 +25,34 @@ static void show(const char *call, uint32_t refusal)
     }
 }
 
-/* Appends one reference of 4000 ticks by its stamp, and tells by how much a start is off that does not join. */
+/* Shows an append, and by how much a start is off that does not join. */
+static void show_append(const char *call, uint32_t refusal, uint64_t distance)
+{
+    if (refusal == FLONTERRI_GAP || refusal == FLONTERRI_OVERLAP) {
+        printf("%s: refused %" PRIu32 " by %" PRIu64 "\n", call, refusal, distance);
+    } else {
+        show(call, refusal);
+    }
+}
+
+/* Appends one reference of 4000 ticks by its stamp. */
 static void append_stamp(uint32_t stamp)
 {
     uint64_t distance = 0;
     uint32_t refusal = flonterri_timeline_append_stamp(&timeline, stamp, 4000, 1, &distance);
 
-    if (refusal == FLONTERRI_GAP || refusal == FLONTERRI_OVERLAP) {
-        printf("append by stamp: refused %" PRIu32 " by %" PRIu64 "\n", refusal, distance);
-    } else {
-        show("append by stamp", refusal);
-    }
+    show_append("append by stamp", refusal, distance);
+}
+
+/* The same, and trims at a clock in the same call. */
+static void append_trim(uint32_t stamp, uint64_t clock)
+{
+    char call[64];
+    uint64_t distance = 0;
+    uint32_t refusal = flonterri_timeline_append_trim(&timeline, stamp, 4000, 1, clock, &distance);
+
+    snprintf(call, sizeof call, "append and trim at %" PRIu64, clock);
+    show_append(call, refusal, distance);
 }
 
 static void verdict(uint64_t clock)
@@ -144,6 +161,25 @@ static void with_update_period(struct flonterri_head head)
     file();
 }
 
+/* Each reference comes when it is over, so that its end is the clock. One is missing, and what is refused trims
+ * nothing: the verdict at the clock before it is still given, and the missing one still joins. A clock over its
+ * limit appends nothing. */
+static void one_call_for_each(const struct flonterri_head *head)
+{
+    uint32_t stamp;
+
+    printf("one call for each\n");
+    show("open", flonterri_timeline_open(&timeline, table, TABLE_WORDS, head, 0));
+    for (stamp = 0; stamp < 20000; stamp += 4000) {
+        append_trim(stamp, stamp + 4000);
+    }
+    append_trim(24000, 28000);
+    verdict(20000);
+    append_trim(20000, UINT64_C(100000000001));
+    append_trim(20000, 24000);
+    append_trim(24000, 28000);
+}
+
 int main(void)
 {
     /* what is not named is 0: the end is unknown, and the window ends at the clock */
@@ -163,5 +199,6 @@ int main(void)
     append_stamp(20001);
     file();
     with_update_period(head);
+    one_call_for_each(&head);
     return 0;
 }

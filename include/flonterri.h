@@ -145,9 +145,9 @@ enum flonterri_read_word {
     FLONTERRI_READ_DISTANCE = 1
 };
 
-/* What a function answers. Where several numbers apply to a call, it answers the lowest; a file's
- * lines have an order of their own. Before all else a record that is not of 12 words is 2, and then an
- * out that is not of its length is 15. */
+/* What a function answers. Where several numbers apply to a call, it answers the lowest; but
+ * flonterri_append_trim answers 10 before 3 to 9, and a file's lines have an order of their own. Before all
+ * else a record that is not of 12 words is 2, and then an out that is not of its length is 15. */
 enum flonterri_refusal {
     FLONTERRI_OK = 0,              /* the call is accepted */
     FLONTERRI_OVER_LIMIT = 1,      /* a head field, the first tick or the offset over its limit, or timescale 0 */
@@ -199,6 +199,18 @@ uint32_t flonterri_append_stamp(uint64_t *record, size_t record_words, uint64_t 
  * update period plays no part in it. Refusals 2, 10. Changes record and table; refused it changes nothing.
  * No null. */
 uint32_t flonterri_trim(uint64_t *record, size_t record_words, uint64_t *table, size_t table_words, uint64_t clock);
+
+/* Appends by stamp and then trims at clock, as one call for each segment: record and table are tested once.
+ * Accepted, it does what flonterri_append_stamp and then flonterri_trim do. Refused, it does neither, which the
+ * two calls do not promise: behind a gap the second still trims, and before a clock over its limit the first
+ * still appends. The clock makes no room: which references are spent already, and whether a run is left, goes by
+ * the greatest clock before the call, so a full table is 9 also where the trim would have emptied it. A clock
+ * that is not later than the greatest is accepted, and nothing is trimmed. out as for flonterri_append_stamp.
+ * Refusals 2, 10, 3, 4 or 5, 6, 7, 8, 9, in this order, and 15 for out. Changes record and table; refused it
+ * changes nothing but out, and that for 4 and 5 alone. No null. */
+uint32_t flonterri_append_trim(uint64_t *record, size_t record_words, uint64_t *table, size_t table_words,
+                               uint32_t stamp, uint32_t duration, uint32_t count, uint64_t clock, uint64_t *out,
+                               size_t out_words);
 
 /* The verdict at a clock. The window ends at the clock plus the update period, or with the period if that is
  * earlier; the sum may pass the limit of milliseconds. out has 5 words, as flonterri_verdict_word names them.

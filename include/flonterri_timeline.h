@@ -144,6 +144,16 @@ static inline uint32_t flonterri_timeline_trim(struct flonterri_timeline *timeli
     return flonterri_trim(timeline->record, FLONTERRI_RECORD_WORDS, timeline->table, timeline->table_words, clock);
 }
 
+/* Appends by stamp and then trims at clock, as one call for each segment; refused it does neither. Refusals 2,
+ * 10, 3 to 9, in this order, and distance as for an append. */
+static inline uint32_t flonterri_timeline_append_trim(struct flonterri_timeline *timeline, uint32_t stamp,
+                                                      uint32_t duration, uint32_t count, uint64_t clock,
+                                                      uint64_t *distance)
+{
+    return flonterri_append_trim(timeline->record, FLONTERRI_RECORD_WORDS, timeline->table, timeline->table_words,
+                                 stamp, duration, count, clock, distance, FLONTERRI_DISTANCE_WORDS);
+}
+
 /* ---- the calls that look: refused, they leave the answer as it came */
 
 /* Gives a verdict by its words, unless it is refused. */

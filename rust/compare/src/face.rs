@@ -11,6 +11,8 @@ pub type Open = fn(&mut [u64], &mut [u64], &Opening) -> u32;
 pub type Append = fn(&mut [u64], &mut [u64], u64, u32, u32, &mut [u64]) -> u32;
 /// An append by stamp.
 pub type AppendStamp = fn(&mut [u64], &mut [u64], u32, u32, u32, &mut [u64]) -> u32;
+/// An append by stamp and then a trim.
+pub type AppendTrim = fn(&mut [u64], &mut [u64], u32, u32, u32, u64, &mut [u64]) -> u32;
 /// A trim.
 pub type Trim = fn(&mut [u64], &mut [u64], u64) -> u32;
 /// A verdict at a clock.
@@ -43,6 +45,8 @@ pub struct Face {
     pub append: Append,
     /// Appending by stamp.
     pub append_stamp: AppendStamp,
+    /// Appending by stamp and then trimming, as one call.
+    pub append_trim: AppendTrim,
     /// Trimming.
     pub trim: Trim,
     /// The verdict at a clock.
@@ -71,6 +75,7 @@ pub const ARCHIVE: Face = Face {
     open: |record, table, opening| open_by_fields(words::open, record, table, opening),
     append: words::append,
     append_stamp: words::append_stamp,
+    append_trim: words::append_trim,
     trim: words::trim,
     verdict: words::verdict,
     verdict_whole: words::verdict_whole,
@@ -89,6 +94,7 @@ pub const PLAIN: Face = Face {
     open: |record, table, opening| open_by_fields(plain_face::open, record, table, opening),
     append: plain_face::append,
     append_stamp: plain_face::append_stamp,
+    append_trim: plain_face::append_trim,
     trim: plain_face::trim,
     verdict: plain_face::verdict,
     verdict_whole: plain_face::verdict_whole,

@@ -16,22 +16,27 @@
 
 use flonterri::words::{word, RUN_WORDS};
 
+use crate::face::PLAIN;
 use crate::limits;
 use crate::lines::{head_of, lines, refused_line, HEADS, REFUSED_LINES};
 use crate::sequence::Made;
 use crate::state::State;
-use crate::step::{Call, Damage, Place, Step, OUT_CAME};
+use crate::step::{Call, Damage, Lent, Place, Step, OUT_CAME};
 use crate::tally::Tally;
 use crate::text::{clock_line, s_fields, ALL_ONES};
 
-/// The numbers that both appends can answer.
+/// The numbers that an append can answer.
 const APPENDS: &[&str] = &["0", "2", "3", "4", "5", "6", "7", "8", "9", "15"];
 
 /// The numbers that each call can answer.
-const NUMBERS: [(&str, &[&str]); 13] = [
+const NUMBERS: [(&str, &[&str]); 14] = [
     ("open", &["0", "1", "2"]),
     ("append", APPENDS),
     ("append_stamp", APPENDS),
+    (
+        "append_trim",
+        &["0", "2", "3", "4", "5", "6", "7", "8", "9", "10", "15"],
+    ),
     ("trim", &["0", "2", "10"]),
     ("verdict", &["0", "2", "10", "11", "15"]),
     ("verdict_whole", &["0", "2", "15", "19"]),
@@ -69,6 +74,39 @@ const TICKS_OFF: &[&str] = &[
     "5 by 2^32 or more",
 ];
 
+/// How far a stamp can be off.
+const STAMPS_OFF: &[&str] = &[
+    "4 by 1",
+    "4 by 2 or more",
+    "4 by 2^31 - 1",
+    "5 by 1",
+    "5 by 2 or more",
+    "5 by 2^31 - 1",
+    "5 by 2^31",
+    "5 before tick 0",
+];
+
+/// What a trim can drop.
+const DROPPED: &[&str] = &[
+    "nothing, clock not later",
+    "nothing",
+    "part of a run",
+    "whole runs",
+    "whole runs and part",
+    "all",
+];
+
+/// Why an append with a trim can be refused, and what its two calls do by themselves.
+const STOPPED: &[&str] = &[
+    "10 alone",
+    "10, and the append too",
+    "3 to 8, the trim would drop",
+    "3 to 8, the trim would drop nothing",
+    "9, the trim would empty a run",
+    "9, the trim would spend what is given",
+    "9, the trim would not help",
+];
+
 /// Where the window of a verdict can end and begin.
 const WINDOWS: &[&str] = &[
     "ends at the clock",
@@ -80,7 +118,7 @@ const WINDOWS: &[&str] = &[
 ];
 
 /// The ways in which calls can go besides their numbers.
-const WAYS: [(&str, &[&str]); 24] = [
+const WAYS: [(&str, &[&str]); 29] = [
     ("lengths", &["another record", "another out"]),
     ("damaged words", &["agree", "disagree"]),
     ("damaged update", &["agree", "disagree"]),
@@ -90,33 +128,19 @@ const WAYS: [(&str, &[&str]); 24] = [
     ),
     ("append out", &["a distance", "as it came"]),
     ("append off by", TICKS_OFF),
-    (
-        "append_stamp off by",
-        &[
-            "4 by 1",
-            "4 by 2 or more",
-            "4 by 2^31 - 1",
-            "5 by 1",
-            "5 by 2 or more",
-            "5 by 2^31 - 1",
-            "5 by 2^31",
-            "5 before tick 0",
-        ],
-    ),
+    ("append_stamp off by", STAMPS_OFF),
+    ("append_trim off by", STAMPS_OFF),
     ("read off by", TICKS_OFF),
     ("append taken", TAKEN),
     ("append_stamp taken", TAKEN),
+    ("append_trim taken", TAKEN),
+    ("trim dropped", DROPPED),
+    ("append_trim dropped", DROPPED),
     (
-        "trim dropped",
-        &[
-            "nothing, clock not later",
-            "nothing",
-            "part of a run",
-            "whole runs",
-            "whole runs and part",
-            "all",
-        ],
+        "append_trim stored",
+        &["kept", "dropped in part", "dropped"],
     ),
+    ("append_trim refused", STOPPED),
     ("verdict kind", &["nothing needed", "complete", "lacking"]),
     ("verdict window", WINDOWS),
     ("verdict_whole kind", &["complete", "lacking"]),
@@ -204,6 +228,10 @@ fn meet_told(tally: &mut Tally, made: &Made) {
     let (number, out) = (made.answer.number, &made.answer.out);
     match &made.step.call {
         Call::Append { .. } | Call::AppendStamp { .. } => meet_out(tally, made, out[0]),
+        Call::AppendTrim { .. } => {
+            meet_out(tally, made, out[0]);
+            meet_stopped(tally, made);
+        }
         Call::Read { bytes } if number != 0 => {
             tally.meet("read refused", &refused_line(bytes, out[0], number));
             if out[1] != 0 || tells_distance(number) {
@@ -223,13 +251,14 @@ fn meet_out(tally: &mut Tally, made: &Made, word: u64) {
         return;
     }
     tally.meet("append out", "a distance");
+    let group = format!("{} off by", made.step.call.name());
     if let Call::Append { .. } = made.step.call {
-        tally.meet("append off by", &ticks_off(number, word));
+        tally.meet(&group, &ticks_off(number, word));
         return;
     }
-    tally.meet("append_stamp off by", &stamp_off(number, word));
+    tally.meet(&group, &stamp_off(number, word));
     if number == 5 && word > made.answer.record[word::NEXT_TICK] {
-        tally.meet("append_stamp off by", "5 before tick 0");
+        tally.meet(&group, "5 before tick 0");
     }
 }
 
@@ -305,6 +334,7 @@ fn meet_accepted(tally: &mut Tally, made: &Made) {
     match &made.step.call {
         Call::Append { count, .. } => meet_append(tally, made, "append taken", *count),
         Call::AppendStamp { count, .. } => meet_append(tally, made, "append_stamp taken", *count),
+        Call::AppendTrim { count, clock, .. } => meet_append_trim(tally, made, *count, *clock),
         Call::Trim { clock } => {
             let dropped = dropped_by(&before(made), &after(made), *clock);
             tally.meet("trim dropped", dropped);
@@ -422,6 +452,75 @@ fn meet_append(tally: &mut Tally, made: &Made, group: &str, count: u32) {
             "into a new run"
         };
         tally.meet(group, run);
+    }
+}
+
+/// Counts an accepted append with a trim as these two calls, one behind the other.
+fn meet_append_trim(tally: &mut Tally, made: &Made, count: u32, clock: u64) {
+    if let Some((append, _)) = halves(made) {
+        let appended = Made {
+            before: made.before,
+            answer: &append.perform(&PLAIN, made.before),
+            step: &append,
+        };
+        meet_append(tally, &appended, "append_trim taken", count);
+        let (between, after) = (after(&appended), after(made));
+        let dropped = dropped_by(&between, &after, clock);
+        tally.meet("append_trim dropped", dropped);
+        meet_stored(tally, &before(made), &between, &after);
+    }
+}
+
+/// Counts what a trim leaves of the references that the append before it, in the same call, has stored.
+fn meet_stored(tally: &mut Tally, before: &State, between: &State, after: &State) {
+    let stored = between.kept() - before.kept();
+    if stored > 0 {
+        let left = match after.kept() {
+            0 => "dropped",
+            kept if kept < stored => "dropped in part",
+            _ => "kept",
+        };
+        tally.meet("append_trim stored", left);
+    }
+}
+
+/// Counts what stopped an append with a trim, by what its two calls do by themselves.
+fn meet_stopped(tally: &mut Tally, made: &Made) {
+    let number = made.answer.number;
+    if let (3..=10, Some((append, trim))) = (number, halves(made)) {
+        let accepted_in = |lent: &Lent| append.perform(&PLAIN, lent).number == 0;
+        let trimmed = trim.after(made.before, &trim.perform(&PLAIN, made.before));
+        let drops = trimmed.table != made.before.table;
+        let why = match number {
+            10 if accepted_in(made.before) => "10 alone",
+            10 => "10, and the append too",
+            3..=8 if drops => "3 to 8, the trim would drop",
+            3..=8 => "3 to 8, the trim would drop nothing",
+            _ if !accepted_in(&trimmed) => "9, the trim would not help",
+            _ if drops => "9, the trim would empty a run",
+            _ => "9, the trim would spend what is given",
+        };
+        tally.meet("append_trim refused", why);
+    }
+}
+
+/// The append and the trim of an append with a trim, each by itself; none where words were changed.
+fn halves(made: &Made) -> Option<(Step, Step)> {
+    match made.step.call {
+        Call::AppendTrim {
+            stamp,
+            duration,
+            count,
+            clock,
+        } if made.step.damage.is_empty() => {
+            let append = Call::AppendStamp {
+                stamp,
+                duration,
+                count,
+            };
+            Some((Step::of(append), Step::of(Call::Trim { clock })))
+        }
+        _ => None,
     }
 }
 

@@ -23,6 +23,12 @@ pub enum Call {
         duration: u32,
         count: u32,
     },
+    AppendTrim {
+        stamp: u32,
+        duration: u32,
+        count: u32,
+        clock: u64,
+    },
     Trim {
         clock: u64,
     },
@@ -60,6 +66,7 @@ impl Call {
             Call::Open(_) => "open",
             Call::Append { .. } => "append",
             Call::AppendStamp { .. } => "append_stamp",
+            Call::AppendTrim { .. } => "append_trim",
             Call::Trim { .. } => "trim",
             Call::Verdict { .. } => "verdict",
             Call::VerdictWhole => "verdict_whole",
@@ -82,7 +89,9 @@ impl Call {
             Call::CoveredEdge => words::EDGE_WORDS,
             Call::FullTick { .. } => words::FULL_TICK_WORDS,
             Call::Touching { .. } => words::TOUCHING_WORDS,
-            Call::Append { .. } | Call::AppendStamp { .. } => words::DISTANCE_WORDS,
+            Call::Append { .. } | Call::AppendStamp { .. } | Call::AppendTrim { .. } => {
+                words::DISTANCE_WORDS
+            }
             Call::Read { .. } => words::READ_WORDS,
             Call::Write { .. } => words::WRITE_WORDS,
             Call::Open(_) | Call::Trim { .. } => 0,
@@ -240,6 +249,12 @@ impl Answer {
                 duration,
                 count,
             } => (face.append_stamp)(record, table, *stamp, *duration, *count, out),
+            Call::AppendTrim {
+                stamp,
+                duration,
+                count,
+                clock,
+            } => (face.append_trim)(record, table, *stamp, *duration, *count, *clock, out),
             Call::Trim { clock } => (face.trim)(record, table, *clock),
             Call::Verdict { clock } => (face.verdict)(record, table, *clock, out),
             Call::VerdictWhole => (face.verdict_whole)(record, table, out),

@@ -249,6 +249,45 @@ impl Timeline {
         Refusal::judge(words::trim(&mut self.record, &mut self.table, clock.0))
     }
 
+    /// Appends as [`append_stamp`](Timeline::append_stamp) does and then trims at a clock as
+    /// [`trim`](Timeline::trim) does, in one call for each segment that comes: record and table are tested
+    /// for agreement once, and not once a call.
+    ///
+    /// It is both or neither. Of two calls the trim would still be made behind a gap, and the append would
+    /// stand before a clock over its limit. So [`ClockLimit`](Refusal::ClockLimit) is judged first, then
+    /// what an append is refused with. The clock makes no room:
+    /// [`NoRunLeft`](Refusal::NoRunLeft) is answered also where the trim would have emptied the table.
+    ///
+    /// ```
+    /// # use flonterri::{Distance, Head, Millis, Refusal, Span, Stamp, Tick, Timeline, Timescale};
+    /// # fn main() -> Result<(), flonterri::OpenError> {
+    /// let head = Head { depth: Millis(10_000), ..Head::new(Timescale(1000)) };
+    /// let mut timeline = Timeline::open(head, Tick(0), 10)?;
+    /// for segment in 0..5 {
+    ///     let (stamp, end) = (Stamp(segment * 4000), u64::from(segment + 1) * 4000);
+    ///     timeline.append_trim(stamp, Span(4000), 1, Millis(end))?;
+    /// }
+    /// assert_eq!((timeline.accepted(), timeline.dropped()), (5, 2));
+    ///
+    /// // A segment of four seconds is missing: nothing is appended, and nothing trimmed.
+    /// let refused = timeline.append_trim(Stamp(24_000), Span(4000), 1, Millis(28_000));
+    /// assert_eq!(refused, Err(Refusal::Gap(Distance(4000))));
+    /// assert_eq!(timeline.greatest_clock(), Millis(20_000));
+    /// # Ok(())
+    /// # }
+    /// ```
+    pub fn append_trim(
+        &mut self,
+        stamp: Stamp,
+        duration: Span,
+        count: u32,
+        clock: Millis,
+    ) -> Result<(), Refusal> {
+        self.judge_append(|record, table, out| {
+            words::append_trim(record, table, stamp.0, duration.0, count, clock.0, out)
+        })
+    }
+
     /// Makes room for so many runs in all: the same references, and more zeros behind them. Where
     /// there is as much room already, nothing changes. [`NoMemory`](OpenError::NoMemory) for so
     /// many runs, which changes nothing either; it is never refused.

@@ -37,7 +37,7 @@ pub const EDGE_WORDS: usize = 2;
 /// Words of the `out` of [`full_tick`].
 pub const FULL_TICK_WORDS: usize = 2;
 
-/// Words of the `out` of [`append`] and [`append_stamp`]: the distance.
+/// Words of the `out` of [`append`], [`append_stamp`] and [`append_trim`]: the distance.
 pub const DISTANCE_WORDS: usize = 1;
 
 /// Words of the `out` of [`read`].
@@ -328,6 +328,34 @@ calls! {
     /// assert_eq!(table[..3], [8000, 4000, 3]);
     /// ```
     fn trim = flonterri_trim(record: &mut [u64], table: &mut [u64], clock: u64,);
+
+    /// Appends by stamp and then trims at a clock, as one call; `out` as for [`append_stamp`]. Which
+    /// references are spent at once, and whether there is room, goes by the greatest clock before the
+    /// call.
+    ///
+    /// Refusals 2, 10, 3, 4 or 5, 6, 7, 8, 9, in this order, and 15 for the length of `out`; each leaves
+    /// record and table as they came.
+    ///
+    /// ```
+    /// use flonterri::words::{self, RECORD_WORDS};
+    ///
+    /// let (mut record, mut table) = ([0; RECORD_WORDS], [0; 30]);
+    /// assert_eq!(words::open(&mut record, &mut table, 1000, 0, 0, 0, 10_000, 1, 0, 0), 0);
+    /// let mut out = [0; words::DISTANCE_WORDS];
+    /// assert_eq!(words::append_trim(&mut record, &mut table, 0, 4000, 5, 18_000, &mut out), 0);
+    /// assert_eq!(table[..3], [8000, 4000, 3]);
+    /// assert_eq!(words::append_trim(&mut record, &mut table, 24_000, 4000, 1, 28_000, &mut out), 4);
+    /// assert_eq!((table[..3].to_vec(), out), (vec![8000, 4000, 3], [4000]));
+    /// ```
+    fn append_trim = flonterri_append_trim(
+        record: &mut [u64],
+        table: &mut [u64],
+        stamp: u32,
+        duration: u32,
+        count: u32,
+        clock: u64,
+        out: &mut [u64],
+    );
 
     /// The verdict at a clock, over the window that ends at the clock plus the update period. `out` is
     /// [`VERDICT_WORDS`] words, in the order that [`verdict_word`] tells.

@@ -569,6 +569,20 @@ fn words_that_a_refusal_leaves() {
     assert_eq!(out, [3, 9]);
 }
 
+/// An append of one reference that takes its `out`; the start's low 32 bits are its stamp.
+type AppendOne = fn(&mut [u64], &mut [u64], u64, u32, &mut [u64]) -> u32;
+
+/// By full tick, by stamp, and by stamp with a trim that changes nothing.
+const APPENDS: [AppendOne; 3] = [
+    |record, table, start, duration, out| words::append(record, table, start, duration, 1, out),
+    |record, table, start, duration, out| {
+        words::append_stamp(record, table, start as u32, duration, 1, out)
+    },
+    |record, table, start, duration, out| {
+        words::append_trim(record, table, start as u32, duration, 1, 0, out)
+    },
+];
+
 /// An append writes its `out` where it is 4 or 5, and nowhere else.
 #[test]
 fn words_of_a_distance() -> Outcome {
@@ -581,14 +595,12 @@ fn words_of_a_distance() -> Outcome {
         (160, 10, (5, 1)),
         (161, u32::MAX, (0, 77)),
     ] {
-        let (mut record, mut table, mut out) = (came, table_came.to_vec(), [77]);
-        let by_tick = words::append(&mut record, &mut table, start, duration, 1, &mut out);
-        assert_eq!((by_tick, out[0]), expected);
-        let (mut record, mut table, mut out) = (came, table_came.to_vec(), [77]);
-        let stamp = start as u32;
-        let by_stamp = words::append_stamp(&mut record, &mut table, stamp, duration, 1, &mut out);
-        assert_eq!((by_stamp, out[0]), expected);
-        assert_eq!(record == came, expected.0 != 0);
+        for append in APPENDS {
+            let (mut record, mut table, mut out) = (came, table_came.to_vec(), [77]);
+            let number = append(&mut record, &mut table, start, duration, &mut out);
+            assert_eq!((number, out[0]), expected);
+            assert_eq!(record == came, number != 0);
+        }
     }
     Ok(())
 }
@@ -599,11 +611,10 @@ fn a_distance_of_another_length() {
     let (mut record, mut table, mut out) = ([9; RECORD_WORDS], [9; 3], [77; 2]);
     for length in [0, 2] {
         let out = &mut out[..length];
-        assert_eq!(words::append(&mut record, &mut table, 5, 0, 0, out), 15);
-        let by_stamp = words::append_stamp(&mut record, &mut table, 5, 0, 0, out);
-        assert_eq!(by_stamp, 15);
-        let short = words::append(&mut record[1..], &mut table, 5, 0, 0, out);
-        assert_eq!(short, 2);
+        for append in APPENDS {
+            assert_eq!(append(&mut record, &mut table, 5, 0, out), 15);
+            assert_eq!(append(&mut record[1..], &mut table, 5, 0, out), 2);
+        }
     }
     assert_eq!((record, table, out), ([9; RECORD_WORDS], [9; 3], [77; 2]));
 }

@@ -191,6 +191,80 @@ fn on_after_a_gap() -> Outcome {
     Ok(())
 }
 
+/// Ten minutes of segments, a call for each: after every one what two calls leave.
+#[test]
+fn one_call_a_segment() -> Outcome {
+    let mut one_call = Timeline::open(ten_seconds(), Tick(0), 10)?;
+    let mut two_calls = one_call.clone();
+    for segment in 0..150 {
+        let (stamp, end) = (Stamp(segment * 4000), u64::from(segment + 1) * 4000);
+        one_call.append_trim(stamp, Span(4000), 1, Millis(end))?;
+        two_calls.append_stamp(stamp, Span(4000), 1)?;
+        two_calls.trim(Millis(end))?;
+        assert_eq!(one_call, two_calls);
+    }
+    assert_eq!((one_call.accepted(), one_call.dropped()), (150, 147));
+    Ok(())
+}
+
+/// Refused, one call leaves all as it came: a gap does not trim, and a clock over its limit, which is
+/// judged first, does not append.
+#[test]
+fn one_call_is_both_or_neither() -> Outcome {
+    let mut timeline = Timeline::open(ten_seconds(), Tick(0), 10)?;
+    timeline.append_trim(Stamp(0), Span(4000), 5, Millis(18_000))?;
+    assert_eq!((timeline.accepted(), timeline.dropped()), (5, 2));
+    let before = timeline.clone();
+    let (later, over) = (Millis(28_000), Millis(Millis::LARGEST.0 + 1));
+    for (stamp, duration, clock, refusal) in [
+        (24_000, 4000, later, Refusal::Gap(Distance(4000))),
+        (16_000, 4000, later, Refusal::Overlap(Distance(4000))),
+        (20_000, 0, later, Refusal::NothingGiven),
+        (20_000, 4000, over, Refusal::ClockLimit),
+        (24_000, 4000, over, Refusal::ClockLimit),
+        (20_000, 0, over, Refusal::ClockLimit),
+    ] {
+        let refused = timeline.append_trim(Stamp(stamp), Span(duration), 1, clock);
+        assert_eq!(refused, Err(refusal));
+        assert_eq!(timeline, before);
+    }
+    timeline.append_trim(Stamp(20_000), Span(4000), 1, later)?;
+    assert_eq!((timeline.accepted(), timeline.dropped()), (6, 4));
+    Ok(())
+}
+
+/// At 14 s the only run is spent, at 19 s what is appended too: a trim before the append makes room, and
+/// one behind it does not.
+#[test]
+fn one_call_judges_room_before_it_trims() -> Outcome {
+    let mut timeline = Timeline::open(ten_seconds(), Tick(0), 1)?;
+    timeline.append(Tick(0), Span(4000), 1)?;
+    let before = timeline.clone();
+    for clock in [14_000, 19_000, Millis::LARGEST.0] {
+        let full = timeline.append_trim(Stamp(4000), Span(5000), 1, Millis(clock));
+        assert_eq!(full, Err(Refusal::NoRunLeft));
+        assert_eq!(timeline, before);
+    }
+    timeline.trim(Millis(14_000))?;
+    timeline.append_trim(Stamp(4000), Span(5000), 1, Millis(19_000))?;
+    assert_eq!((timeline.accepted(), timeline.dropped()), (2, 2));
+    Ok(())
+}
+
+/// A clock that steps back: the segment is appended, and nothing is trimmed.
+#[test]
+fn one_call_with_an_earlier_clock() -> Outcome {
+    let mut timeline = Timeline::open(ten_seconds(), Tick(0), 10)?;
+    timeline.append_trim(Stamp(0), Span(4000), 5, Millis(18_000))?;
+    for (stamp, clock) in [(20_000, 17_999), (24_000, 0), (28_000, 18_000)] {
+        timeline.append_trim(Stamp(stamp), Span(4000), 1, Millis(clock))?;
+        assert_eq!(timeline.next_tick(), Tick(u64::from(stamp) + 4000));
+        assert_eq!(timeline.greatest_clock(), Millis(18_000));
+        assert_eq!(timeline.dropped(), 2);
+    }
+    Ok(())
+}
+
 /// What the three calls leave where they are refused, and the lengths that they take.
 #[test]
 fn words_of_edge_full_tick_and_available() {

@@ -74,6 +74,15 @@ fn calls_that_change() {
     };
     assert_eq!(soon(|| stamped(late(last + 1))), (0, last, 0));
     assert_eq!(soon(|| stamped(late(last))), (0, last - 1, 1));
+    // both at once: all stored and then dropped, or the last alone
+    let stamped_and_trimmed = |(mut record, mut table): Words, clock| {
+        let number = words::append_trim(&mut record, &mut table, 0, 1, MOST, clock, &mut [0]);
+        (number, record[word::DROPPED], record[word::RUNS_USED])
+    };
+    let both = |words, clock| soon(|| stamped_and_trimmed(words, clock));
+    assert_eq!(both(opened(), last), (0, last - 1, 1));
+    assert_eq!(both(opened(), last + 1), (0, last, 0));
+    assert_eq!(both(late(last), last + 1), (0, last, 0));
 }
 
 #[test]

@@ -141,6 +141,22 @@ pub fn trim(record: &mut [u64], table: &mut [u64], clock: u64) -> u32 {
     number_of(change(record, table, |timeline| timeline.trim(clock)))
 }
 
+/// Appends by stamp and then trims, as one call. Refusals 2, 10, 3, 4 or 5, 6, 7, 8, 9, in this
+/// order; `out` as for [`append`].
+pub fn append_trim(
+    record: &mut [u64],
+    table: &mut [u64],
+    stamp: u32,
+    duration: u32,
+    count: u32,
+    clock: u64,
+    out: &mut [u64],
+) -> u32 {
+    change_or_tell(record, table, out, |timeline| {
+        timeline.append_trim(stamp, duration, count, clock)
+    })
+}
+
 /// Asks a timeline and puts the answer's words into `out`; a refusal leaves `out` as it came.
 fn ask<T: Copy, const N: usize>(
     record: &[u64],

@@ -141,11 +141,33 @@ impl Timeline {
     /// earlier clock changes nothing and is accepted. Refusal 10.
     pub fn trim(&mut self, clock: u64) -> Result<(), Refusal> {
         let clock = Millis::new(clock).ok_or(Refusal::ClockOverLimit)?;
+        self.trim_to(clock);
+        Ok(())
+    }
+
+    /// An append by stamp and then a trim, as one call. The clock is judged before the append, and a
+    /// refused append stops the call. The append knows nothing of the clock: what is spent at once,
+    /// and whether there is room, goes by the greatest clock before the call. Refusals 10, 3, 4 or 5,
+    /// 6, 7, 8, 9, in this order.
+    pub fn append_trim(
+        &mut self,
+        stamp: u32,
+        duration: u32,
+        count: u32,
+        clock: u64,
+    ) -> Result<(), Refusal> {
+        let clock = Millis::new(clock).ok_or(Refusal::ClockOverLimit)?;
+        self.append_stamp(stamp, duration, count)?;
+        self.trim_to(clock);
+        Ok(())
+    }
+
+    /// What a trim does once its clock is judged.
+    fn trim_to(&mut self, clock: Millis) {
         if clock > self.greatest_clock {
             self.greatest_clock = clock;
             self.drop_spent();
         }
-        Ok(())
     }
 
     /// The greatest clock in grains.

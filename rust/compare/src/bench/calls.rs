@@ -1,4 +1,5 @@
-//! Mixed appends and trims through the archive and through a plain vector of references.
+//! Mixed appends and trims through the archive and through a plain vector of references; and segments, an
+//! append and a trim each, by one call of the archive, by two, and through the vector.
 
 use flonterri::words::{word, RECORD_WORDS};
 
@@ -8,11 +9,17 @@ use crate::face::ARCHIVE;
 use crate::limits::PROGRAM_TABLE_WORDS;
 use crate::opening::Opening;
 
-/// An append of one reference, or a trim.
+/// A reference that is appended, and then a trim at its end.
 #[derive(Clone, Copy)]
-enum Call {
-    Append { start: u64, duration: u32 },
-    Trim { clock: u64 },
+struct Segment {
+    start: u64,
+    duration: u32,
+}
+
+impl Segment {
+    fn end(self) -> u64 {
+        self.start + u64::from(self.duration)
+    }
 }
 
 /// A channel: how deep its window is, after how many references the duration changes, and the
@@ -45,26 +52,64 @@ const CHANNELS: [Channel; 3] = [
     },
 ];
 
-/// Times every channel.
+/// Times every channel: so many appends and trims, and then so many segments.
 pub fn run(calls: u64, rounds: u64) -> Result<(), String> {
-    let unit = Unit {
-        name: "ns a call",
-        in_a_second: 1e9 / calls as f64,
-    };
     for channel in &CHANNELS {
-        let made = channel.calls(calls);
         println!("{} appends and trims, {}", calls, channel.name);
-        let archive = Side {
-            name: "archive",
-            work: &|| Ok(channel.through_archive(&made)),
-        };
-        let vector = Side {
-            name: "vector",
-            work: &|| Ok(channel.through_vector(&made)),
-        };
-        race(rounds, &unit, &archive, &vector)?;
+        let segments = channel.segments(calls / 2);
+        let sides = [
+            Side {
+                name: "archive",
+                work: &|| Ok(channel.through_archive(&segments, by_tick)),
+            },
+            Side {
+                name: "vector",
+                work: &|| Ok(channel.through_vector(&segments)),
+            },
+        ];
+        race(rounds, &Unit::nanos("ns a call", calls), &sides)?;
+    }
+    for channel in &CHANNELS {
+        println!("{} segments, {}", calls, channel.name);
+        let segments = channel.segments(calls);
+        let sides = [
+            Side {
+                name: "one call",
+                work: &|| Ok(channel.through_archive(&segments, by_one_call)),
+            },
+            Side {
+                name: "two calls",
+                work: &|| Ok(channel.through_archive(&segments, by_two_calls)),
+            },
+            Side {
+                name: "vector",
+                work: &|| Ok(channel.through_vector(&segments)),
+            },
+        ];
+        race(rounds, &Unit::nanos("ns a segment", calls), &sides)?;
     }
     Ok(())
+}
+
+/// A segment through the archive by its full tick; 0 where both calls are accepted.
+fn by_tick(record: &mut [u64], table: &mut [u64], segment: Segment) -> u32 {
+    let Segment { start, duration } = segment;
+    (ARCHIVE.append)(record, table, start, duration, 1, &mut [0])
+        | (ARCHIVE.trim)(record, table, segment.end())
+}
+
+/// The same by its stamp.
+fn by_two_calls(record: &mut [u64], table: &mut [u64], segment: Segment) -> u32 {
+    let Segment { start, duration } = segment;
+    (ARCHIVE.append_stamp)(record, table, start as u32, duration, 1, &mut [0])
+        | (ARCHIVE.trim)(record, table, segment.end())
+}
+
+/// The same as one call.
+fn by_one_call(record: &mut [u64], table: &mut [u64], segment: Segment) -> u32 {
+    let Segment { start, duration } = segment;
+    let (stamp, clock) = (start as u32, segment.end());
+    (ARCHIVE.append_trim)(record, table, stamp, duration, 1, clock, &mut [0])
 }
 
 impl Channel {
@@ -76,31 +121,30 @@ impl Channel {
         }
     }
 
-    /// A reference of about two seconds, then a trim at its end, and so on.
-    fn calls(&self, many: u64) -> Vec<Call> {
+    /// References of about two seconds, one behind the other.
+    fn segments(&self, many: u64) -> Vec<Segment> {
         let mut start = 0;
-        let mut calls = Vec::new();
-        for at in 0..many / 2 {
+        let segment = |at| {
             let duration = 2000 + 2 * (at / self.references_a_run % 2) as u32;
-            calls.push(Call::Append { start, duration });
-            start += u64::from(duration);
-            calls.push(Call::Trim { clock: start });
-        }
-        calls
+            let segment = Segment { start, duration };
+            start = segment.end();
+            segment
+        };
+        (0..many).map(segment).collect()
     }
 
-    /// Accepted, dropped, next tick and greatest clock after all calls through the archive.
-    fn through_archive(&self, calls: &[Call]) -> [u64; 4] {
+    /// Accepted, dropped, next tick and greatest clock after all segments through the archive, each
+    /// taken by some calls.
+    fn through_archive(
+        &self,
+        segments: &[Segment],
+        take: impl Fn(&mut [u64], &mut [u64], Segment) -> u32,
+    ) -> [u64; 4] {
         let mut record = [0; RECORD_WORDS];
-        let (mut table, mut out) = (vec![0; self.table_words], [0]);
+        let mut table = vec![0; self.table_words];
         let mut numbers = (ARCHIVE.open)(&mut record, &mut table, &self.head());
-        for call in calls {
-            numbers |= match *call {
-                Call::Append { start, duration } => {
-                    (ARCHIVE.append)(&mut record, &mut table, start, duration, 1, &mut out)
-                }
-                Call::Trim { clock } => (ARCHIVE.trim)(&mut record, &mut table, clock),
-            };
+        for segment in segments {
+            numbers |= take(&mut record, &mut table, *segment);
         }
         assert_eq!(numbers, 0, "every call is accepted");
         [
@@ -112,14 +156,12 @@ impl Channel {
     }
 
     /// The same through a vector.
-    fn through_vector(&self, calls: &[Call]) -> [u64; 4] {
+    fn through_vector(&self, segments: &[Segment]) -> [u64; 4] {
         let mut vector = Vector::open(self.head());
         let mut numbers = 0;
-        for call in calls {
-            numbers |= match *call {
-                Call::Append { start, duration } => vector.append(start, duration, 1),
-                Call::Trim { clock } => vector.trim(clock),
-            };
+        for segment in segments {
+            numbers |= vector.append(segment.start, segment.duration, 1);
+            numbers |= vector.trim(segment.end());
         }
         assert_eq!(numbers, 0, "every call is accepted");
         vector.words()

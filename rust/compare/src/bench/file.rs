@@ -60,15 +60,17 @@ fn time_both(desk: &Program, plain_desk: &Program, path: &Path, rounds: u64) -> 
         name: "ms",
         in_a_second: 1e3,
     };
-    let ours = Side {
-        name: desk.name,
-        work: &|| run(desk),
-    };
-    let plain = Side {
-        name: plain_desk.name,
-        work: &|| run(plain_desk),
-    };
-    let answer = race(rounds, &unit, &ours, &plain)?;
+    let sides = [
+        Side {
+            name: desk.name,
+            work: &|| run(desk),
+        },
+        Side {
+            name: plain_desk.name,
+            work: &|| run(plain_desk),
+        },
+    ];
+    let answer = race(rounds, &unit, &sides)?;
     let answer = String::from_utf8_lossy(&answer);
     println!("  both answer {:?}", answer.trim_end());
     Ok(())

@@ -12,7 +12,7 @@ use std::time::{Duration, Instant};
 use crate::arguments::Arguments;
 use crate::report::programs;
 
-/// How many appends and trims are made where nothing else is asked for.
+/// How many appends and trims, and how many segments, where nothing else is asked for.
 const CALLS: u64 = 1_000_000;
 
 /// How long a program may take for the large file, which has as many lines as are asked for.
@@ -41,7 +41,7 @@ fn processor() -> String {
     name.unwrap_or("of unknown name").to_string()
 }
 
-/// One of two sides that do the same work.
+/// One of the sides that do the same work.
 struct Side<'work, T> {
     name: &'static str,
     /// Does the work once, and answers what it comes to.
@@ -54,35 +54,51 @@ struct Unit {
     in_a_second: f64,
 }
 
-/// Has both sides do their work in turns, in so many rounds, and prints the best time of each. What
-/// both come to, or the first difference.
-fn race<T: PartialEq + Debug>(
-    rounds: u64,
-    unit: &Unit,
-    ours: &Side<T>,
-    plain: &Side<T>,
-) -> Result<T, String> {
-    let (mut our_best, mut plain_best) = (Duration::MAX, Duration::MAX);
+impl Unit {
+    /// Nanoseconds for each of so many equal parts of the work.
+    fn nanos(name: &'static str, parts: u64) -> Unit {
+        Unit {
+            name,
+            in_a_second: 1e9 / parts as f64,
+        }
+    }
+}
+
+/// Has all sides do their work in turns, in so many rounds, and prints the best time of each and how it
+/// compares with those behind it. What all come to, or the first difference.
+fn race<T: PartialEq + Debug>(rounds: u64, unit: &Unit, sides: &[Side<T>]) -> Result<T, String> {
+    let mut best = vec![Duration::MAX; sides.len()];
     let mut end = None;
     for _ in 0..rounds {
-        let (our_end, our_time) = ours.timed()?;
-        let (plain_end, plain_time) = plain.timed()?;
-        if our_end != plain_end {
-            return Err(format!(
-                "{} comes to {:?}, {} to {:?}",
-                ours.name, our_end, plain.name, plain_end
-            ));
+        for (side, best) in sides.iter().zip(&mut best) {
+            let (own_end, time) = side.timed()?;
+            *best = time.min(*best);
+            match &end {
+                Some(end) if *end != own_end => {
+                    return Err(format!(
+                        "{} comes to {:?}, {} to {:?}",
+                        sides[0].name, end, side.name, own_end
+                    ));
+                }
+                _ => end = Some(own_end),
+            }
         }
-        our_best = our_best.min(our_time);
-        plain_best = plain_best.min(plain_time);
-        end = Some(our_end);
     }
-    for (side, best) in [(ours, our_best), (plain, plain_best)] {
-        let time = best.as_secs_f64() * unit.in_a_second;
-        println!("  {:<10}  {:8.1} {}", side.name, time, unit.name);
+    let timed: Vec<(&str, f64)> = sides
+        .iter()
+        .zip(best)
+        .map(|(side, best)| (side.name, best.as_secs_f64()))
+        .collect();
+    for (name, time) in &timed {
+        let time = time * unit.in_a_second;
+        println!("  {:<10}  {:8.1} {}", name, time, unit.name);
     }
-    let times = our_best.as_secs_f64() / plain_best.as_secs_f64();
-    println!("  {} takes {:.2} times as long", ours.name, times);
+    for (at, (name, time)) in timed.iter().enumerate() {
+        for (other, other_time) in &timed[at + 1..] {
+            let times = time / other_time;
+            println!("  {}: {:.2} times as long as {}", name, times, other);
+        }
+    }
     end.ok_or_else(|| "no round was asked for".to_string())
 }
 

@@ -36,6 +36,15 @@ fn stamp(stamp: u32) -> Call {
     }
 }
 
+fn append_trim(stamp: u32, duration: u32, clock: u64) -> Call {
+    Call::AppendTrim {
+        stamp,
+        duration,
+        count: 1,
+        clock,
+    }
+}
+
 fn trim(clock: u64) -> Call {
     Call::Trim { clock }
 }
@@ -122,6 +131,81 @@ fn case_b_trims() -> Case {
     Case {
         name: "B with trims, and the worked file",
         opening: CASE_B,
+        calls,
+    }
+}
+
+/// Case B by a call for each reference, which also trims at its end. What is refused does neither: a gap
+/// does not trim, and a clock over its limit, which is judged before the append, does not append.
+fn case_b_a_call_for_each() -> Case {
+    let kept = |said: Said, accepted: u64, dropped: u64, clock: u64| {
+        said.record(word::ACCEPTED, accepted)
+            .record(word::DROPPED, dropped)
+            .record(word::GREATEST_CLOCK, clock)
+            .front(&[dropped * 4000, 4000, accepted - dropped])
+    };
+    let next = |start: u64, dropped: u64| {
+        let (stamp, end) = (start as u32, start + 4000);
+        let said = kept(accepted(), end / 4000, dropped, end);
+        (append_trim(stamp, 4000, end), said)
+    };
+    let as_it_came = |said: Said| kept(said, 5, 2, 20_000);
+    let untold = |number: u32| as_it_came(refused(number).told(&[OUT_CAME]));
+    let (last, over) = (100_000_000_000, 100_000_000_001);
+    Case {
+        name: "B, a call for each reference",
+        opening: CASE_B,
+        calls: vec![
+            next(0, 0),
+            next(4000, 0),
+            next(8000, 0),
+            next(12_000, 1),
+            next(16_000, 2),
+            (append_trim(24_000, 4000, 28_000), as_it_came(gap(4000))),
+            (append_trim(16_000, 4000, 28_000), as_it_came(overlap(4000))),
+            (append_trim(20_000, 0, 28_000), untold(3)),
+            (append_trim(20_000, 4000, over), untold(10)),
+            (append_trim(20_000, 0, over), untold(10)),
+            (append_trim(24_000, 4000, ALL_ONES), untold(10)),
+            (append_trim(20_000, 4000, 0), kept(accepted(), 6, 2, 20_000)),
+            (
+                append_trim(24_000, 4000, last),
+                accepted().record(word::DROPPED, 7).front(&[]),
+            ),
+        ],
+    }
+}
+
+/// Ten runs fill the table, and at 1,000 ms all of them are spent: room is judged before that, and so is
+/// what is spent at once.
+fn room_before_the_trim() -> Case {
+    let runs = (0..10).map(|at: u64| {
+        (
+            append(at / 2 * 3 + at % 2, 1 + at as u32 % 2, 1),
+            accepted(),
+        )
+    });
+    let mut calls: Vec<(Call, Said)> = runs.collect();
+    let full = refused(9).told(&[OUT_CAME]).record(word::GREATEST_CLOCK, 0);
+    calls.extend([
+        (append_trim(15, 3, 1_000), full.clone()),
+        (append_trim(15, 3, 0), full),
+        (
+            append_trim(15, 2, 0),
+            accepted().record(word::RUNS_USED, 10),
+        ),
+        (trim(1_000), accepted().front(&[])),
+        (
+            append_trim(17, 3, 0),
+            accepted().record(word::DROPPED, 12).front(&[]),
+        ),
+    ]);
+    Case {
+        name: "a full table, and a clock at which it is empty",
+        opening: Opening {
+            depth: 10,
+            ..Opening::OPEN_ENDED
+        },
         calls,
     }
 }
@@ -403,6 +487,8 @@ fn cases() -> Vec<Case> {
         case_a(),
         case_b_verdicts(),
         case_b_trims(),
+        case_b_a_call_for_each(),
+        room_before_the_trim(),
         case_d(),
         half_ticks(),
         window_before_the_period(),

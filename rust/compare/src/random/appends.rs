@@ -7,6 +7,13 @@ use crate::state::State;
 /// The most references that one append may store, since the plain side keeps each by itself.
 const MOST_STORED: u64 = 1_000;
 
+/// A start, a duration and a count.
+pub fn append(generator: &mut Generator, state: &State) -> (u64, u32, u32) {
+    let duration = duration(generator, state);
+    let start = start(generator, state);
+    (start, duration, count(generator, state, duration))
+}
+
 /// A start: most join, the others lie just beside the next tick, a turn of the stamp away, or
 /// anywhere.
 pub fn start(generator: &mut Generator, state: &State) -> u64 {
@@ -25,7 +32,7 @@ pub fn start(generator: &mut Generator, state: &State) -> u64 {
 }
 
 /// A duration: often that of the last run, mostly short, rarely 0 or at its limit.
-pub fn duration(generator: &mut Generator, state: &State) -> u32 {
+fn duration(generator: &mut Generator, state: &State) -> u32 {
     let last = state.runs.last().map_or(1, |run| run.duration as u32);
     match generator.below(40) {
         0 => 0,
@@ -38,7 +45,7 @@ pub fn duration(generator: &mut Generator, state: &State) -> u32 {
 }
 
 /// A count: mostly small, rarely 0, and now and then one that comes to a limit or just past it.
-pub fn count(generator: &mut Generator, state: &State, duration: u32) -> u32 {
+fn count(generator: &mut Generator, state: &State, duration: u32) -> u32 {
     let count = match generator.below(20) {
         0 if generator.one_in(2) => 0,
         1 => generator.between(5, 60),

@@ -2,7 +2,7 @@
 
 use crate::generator::Generator;
 use crate::limits;
-use crate::state::State;
+use crate::state::{Run, State};
 
 /// A clock near the greatest one, near the moment at which something leaves the window or enters
 /// it, or at the limit.
@@ -17,6 +17,15 @@ pub fn clock(generator: &mut Generator, state: &State) -> u64 {
         1 => generator.pick(&[limits::MILLIS, limits::MILLIS - 1]),
         2 => generator.below(limits::MILLIS),
         _ => chosen(generator, state).min(limits::MILLIS),
+    }
+}
+
+/// A clock behind an append: as above, or about the moment at which what it gives leaves the window.
+pub fn clock_behind(generator: &mut Generator, state: &State, given: Run) -> u64 {
+    if generator.one_in(4) {
+        when_run_spent(generator, state, given).min(limits::MILLIS)
+    } else {
+        clock(generator, state)
     }
 }
 
@@ -48,6 +57,11 @@ fn when_spent(generator: &mut Generator, state: &State) -> u64 {
         return generator.near(state.clock_that_passes(state.next_tick));
     }
     let run = generator.pick(&state.runs);
+    when_run_spent(generator, state, run)
+}
+
+/// About the moment at which an end of a run's references leaves the window, or its start.
+fn when_run_spent(generator: &mut Generator, state: &State, run: Run) -> u64 {
     let ended = generator.between(0, run.count.min(1 << 40));
     let tick = run.start.saturating_add(run.duration.saturating_mul(ended));
     generator.near(state.clock_that_passes(tick))

@@ -6,7 +6,7 @@
 use crate::generator::Generator;
 use crate::limits;
 use crate::random::{appends, clocks, damage, files, heads};
-use crate::state::State;
+use crate::state::{Run, State};
 use crate::step::{Call, Lent, Step};
 use crate::weight;
 
@@ -47,6 +47,9 @@ fn is_light(call: &Call, state: &State) -> bool {
         }
         | Call::AppendStamp {
             duration, count, ..
+        }
+        | Call::AppendTrim {
+            duration, count, ..
         } => appends::is_light(state, *duration, *count),
         _ => true,
     }
@@ -56,7 +59,7 @@ fn call(generator: &mut Generator, state: &State) -> Call {
     if (state.is_closed() && generator.percent(80)) || state.kept() > MOST_KEPT {
         return open_or_read(generator);
     }
-    match generator.below(46) {
+    match generator.below(52) {
         0 => open_or_read(generator),
         1..=13 => append(generator, state),
         14..=19 => append_stamp(generator, state),
@@ -75,6 +78,7 @@ fn call(generator: &mut Generator, state: &State) -> Call {
         37 | 38 => available_at(generator, state),
         39 | 40 => Call::CoveredEdge,
         41 | 42 => full_tick(generator, state),
+        43..=48 => append_trim(generator, state),
         _ => write(generator, state),
     }
 }
@@ -88,20 +92,35 @@ fn open_or_read(generator: &mut Generator) -> Call {
 }
 
 fn append(generator: &mut Generator, state: &State) -> Call {
-    let duration = appends::duration(generator, state);
+    let (start, duration, count) = appends::append(generator, state);
     Call::Append {
-        start: appends::start(generator, state),
+        start,
         duration,
-        count: appends::count(generator, state, duration),
+        count,
     }
 }
 
 fn append_stamp(generator: &mut Generator, state: &State) -> Call {
-    let duration = appends::duration(generator, state);
+    let (start, duration, count) = appends::append(generator, state);
     Call::AppendStamp {
-        stamp: appends::start(generator, state) as u32,
+        stamp: start as u32,
         duration,
-        count: appends::count(generator, state, duration),
+        count,
+    }
+}
+
+fn append_trim(generator: &mut Generator, state: &State) -> Call {
+    let (start, duration, count) = appends::append(generator, state);
+    let given = Run {
+        start: state.next_tick,
+        duration: u64::from(duration),
+        count: u64::from(count),
+    };
+    Call::AppendTrim {
+        stamp: start as u32,
+        duration,
+        count,
+        clock: clocks::clock_behind(generator, state, given),
     }
 }
 

@@ -1,7 +1,12 @@
 //! The kinds that are counted are the right ones.
 
-use crate::kinds::meet_input;
+use crate::face::{Faces, PLAIN};
+use crate::kinds::{announce_calls, meet_call, meet_input};
+use crate::limits;
 use crate::lines::{head_of, refused_line};
+use crate::opening::Opening;
+use crate::sequence::{compare_step, Made};
+use crate::step::{Call, Lent, Step};
 use crate::tally::Tally;
 use crate::text::clock_line;
 
@@ -95,6 +100,65 @@ fn distances_of_the_program() {
     assert_eq!(answer("refused 4 line 3 by 0"), ["desk off by: 4 by 0"]);
     let other = "desk off by: 16 by 1";
     assert_eq!(answer("refused 16 line 3 by 1"), [other]);
+}
+
+/// What a call is counted as in a table of so many words, which has one reference of four seconds if
+/// there is room, in a window of ten.
+fn counted(table_words: usize, call: Call) -> String {
+    let faces = Faces {
+        judged: PLAIN,
+        plain: PLAIN,
+    };
+    let opening = Opening {
+        depth: 10_000,
+        ..Opening::OPEN_ENDED
+    };
+    let append = Call::Append {
+        start: 0,
+        duration: 4000,
+        count: 1,
+    };
+    let mut lent = Lent::anything(table_words);
+    let mut tally = Tally::default();
+    for call in [Call::Open(opening), append, call] {
+        tally = Tally::default();
+        announce_calls(&mut tally);
+        let mut look = |made: &Made| meet_call(&mut tally, made);
+        let after = compare_step(&faces, &Step::of(call), &lent, &mut look);
+        lent = after.expect("a side that is like itself");
+    }
+    assert_eq!(tally.surprises(), [""; 0]);
+    tally.to_string()
+}
+
+#[test]
+fn kinds_of_an_append_with_a_trim() {
+    let over = limits::MILLIS + 1;
+    for (table_words, stamp, duration, clock, kind) in [
+        (3, 4000, 5000, 14_000, "9, the trim would empty a run"),
+        (3, 4000, 5000, 13_999, "9, the trim would not help"),
+        (0, 0, 4000, 14_000, "9, the trim would not help"),
+        (0, 0, 4000, 18_000, "9, the trim would spend what is given"),
+        (6, 4000, 5000, over, "10 alone"),
+        (3, 4000, 5000, over, "10, and the append too"),
+        (6, 4001, 5000, 14_000, "3 to 8, the trim would drop"),
+        (6, 4001, 5000, 13_999, "3 to 8, the trim would drop nothing"),
+        (6, 4000, 5000, 18_999, "kept"),
+        (6, 4000, 5000, 19_000, "dropped in part"),
+        (6, 4000, 5000, 24_000, "dropped"),
+        (6, 4000, 5000, 0, "nothing, clock not later"),
+        (6, 4000, 4000, 14_000, "part of a run"),
+        (6, 4000, 5000, 14_000, "whole runs"),
+    ] {
+        let call = Call::AppendTrim {
+            stamp,
+            duration,
+            count: 2,
+            clock,
+        };
+        let counted = counted(table_words, call);
+        assert!(counted.contains(&format!("  {} (1)", kind)), "{}", counted);
+    }
 }
 
 #[test]

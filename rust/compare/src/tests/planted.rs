@@ -3,7 +3,7 @@
 use flonterri::words::word;
 
 use crate::calls::random_calls;
-use crate::face::{Append, AppendStamp, Face, Faces, Read, PLAIN};
+use crate::face::{Append, AppendStamp, AppendTrim, Face, Faces, Read, PLAIN};
 use crate::generator::Generator;
 use crate::opening::Opening;
 use crate::sequence::Sequence;
@@ -156,6 +156,81 @@ fn an_append_that_takes_an_out_of_any_length() {
         (PLAIN.append_stamp)(record, table, stamp, duration, count, &mut [0])
     };
     assert!(run(stamping(append_stamp)).is_err());
+}
+
+/// A side that appends and trims so in one call, and is right besides.
+fn pairing(append_trim: AppendTrim) -> Face {
+    Face {
+        append_trim,
+        ..PLAIN
+    }
+}
+
+#[test]
+fn an_append_with_a_trim_that_trims_first() {
+    let append_trim: AppendTrim = |record, table, stamp, duration, count, clock, out| {
+        let mut pair = |record: &mut [u64], table: &mut [u64]| {
+            (PLAIN.append_trim)(record, table, stamp, duration, count, clock, out)
+        };
+        let number = pair(record, table);
+        let (mut trimmed, mut runs) = (record.to_vec(), table.to_vec());
+        (PLAIN.trim)(&mut trimmed, &mut runs, clock);
+        if number != 9 || pair(&mut trimmed, &mut runs) != 0 {
+            return number;
+        }
+        record.copy_from_slice(&trimmed);
+        table.copy_from_slice(&runs);
+        0
+    };
+    found(pairing(append_trim), "number: 0 and 9");
+}
+
+#[test]
+fn a_refused_append_that_still_trims() {
+    let append_trim: AppendTrim = |record, table, stamp, duration, count, clock, out| {
+        let number = (PLAIN.append_trim)(record, table, stamp, duration, count, clock, out);
+        if (3..=9).contains(&number) {
+            (PLAIN.trim)(record, table, clock);
+        }
+        number
+    };
+    found(pairing(append_trim), "record word ");
+}
+
+#[test]
+fn a_clock_that_is_judged_behind_the_append() {
+    let append_trim: AppendTrim = |record, table, stamp, duration, count, clock, out| {
+        let (mut appended, mut runs) = (record.to_vec(), table.to_vec());
+        match (PLAIN.append_stamp)(&mut appended, &mut runs, stamp, duration, count, out) {
+            0 => (PLAIN.append_trim)(record, table, stamp, duration, count, clock, out),
+            number => number,
+        }
+    };
+    found(pairing(append_trim), "number: ");
+}
+
+#[test]
+fn a_clock_over_its_limit_that_leaves_the_append_standing() {
+    let append_trim: AppendTrim = |record, table, stamp, duration, count, clock, out| {
+        let number = (PLAIN.append_trim)(record, table, stamp, duration, count, clock, out);
+        if number == 10 {
+            (PLAIN.append_stamp)(record, table, stamp, duration, count, &mut [0]);
+        }
+        number
+    };
+    found(pairing(append_trim), "record word 7");
+}
+
+#[test]
+fn an_append_with_a_trim_that_sets_the_clock_back() {
+    let append_trim: AppendTrim = |record, table, stamp, duration, count, clock, out| {
+        let number = (PLAIN.append_trim)(record, table, stamp, duration, count, clock, out);
+        if number == 0 {
+            record[word::GREATEST_CLOCK] = clock;
+        }
+        number
+    };
+    found(pairing(append_trim), "record word 10");
 }
 
 /// The bytes of a file without one of its lines, counted from 1.

@@ -95,6 +95,88 @@ fn b_an_earlier_clock_changes_nothing() {
     assert_eq!(lent, before);
 }
 
+/// Case B as its packager sends it: a call for each reference, with the clock at its end.
+fn b_a_call_for_each() -> Lent {
+    let mut lent = Lent::opened(CASE_B, 0, 30);
+    for (end, dropped) in [(4000, 0), (8000, 0), (12_000, 0), (16_000, 1), (20_000, 2)] {
+        assert_eq!(lent.append_trim(end as u32 - 4000, 4000, 1, end), 0);
+        assert_eq!(lent.record[ACCEPTED], end / 4000);
+        assert_eq!(lent.record[DROPPED], dropped);
+        assert_eq!(lent.record[GREATEST_CLOCK], end);
+        let kept = end / 4000 - dropped;
+        assert_eq!(lent.table[..3], [dropped * 4000, 4000, kept]);
+    }
+    lent
+}
+
+#[test]
+fn b_an_append_with_a_trim_is_the_two_calls() {
+    let mut two_calls = case_b();
+    assert_eq!(two_calls.trim(20_000), 0);
+    assert_eq!(b_a_call_for_each(), two_calls);
+    let mut one_call = Lent::opened(CASE_B, 0, 30);
+    assert_eq!(one_call.append_trim(0, 4000, 5, 20_000), 0);
+    assert_eq!(one_call, two_calls);
+}
+
+#[test]
+fn b_a_gap_with_a_later_clock_does_not_trim() {
+    let mut lent = b_a_call_for_each();
+    let before = lent.clone();
+    assert_eq!(lent.append_trim_by(24_000, 4000, 1, 28_000), (4, 4000));
+    assert_eq!(lent.append_trim_by(16_000, 4000, 1, 28_000), (5, 4000));
+    assert_eq!(lent, before);
+    // The second of two calls trims all the same.
+    assert_eq!(lent.append_stamp_by(24_000, 4000, 1), (4, 4000));
+    assert_eq!(lent.trim(28_000), 0);
+    assert_eq!(lent.record[DROPPED], 4);
+}
+
+#[test]
+fn b_a_clock_over_its_limit_appends_nothing() {
+    let mut lent = b_a_call_for_each();
+    let before = lent.clone();
+    assert_eq!(lent.append_trim(20_000, 4000, 1, 100_000_000_001), 10);
+    assert_eq!(lent.append_trim_by(20_001, 0, 1, 100_000_000_001), (10, 0));
+    assert_eq!(lent, before);
+    // The first of two calls stands.
+    assert_eq!(lent.append_stamp(20_000, 4000, 1), 0);
+    assert_eq!(lent.trim(100_000_000_001), 10);
+    assert_eq!(lent.record[ACCEPTED], 6);
+}
+
+#[test]
+fn b_an_append_with_an_earlier_clock_trims_nothing() {
+    let mut lent = b_a_call_for_each();
+    for (clock, kept) in [(0, 4), (19_999, 5), (20_000, 6)] {
+        assert_eq!(lent.join_trim(4000, 1, clock), 0);
+        assert_eq!(lent.record[GREATEST_CLOCK], 20_000);
+        assert_eq!(lent.table[..3], [8000, 4000, kept]);
+    }
+}
+
+/// At 14,000 the one run is spent and would make room, at 19,000 what is given is spent too.
+#[test]
+fn b_room_is_judged_before_the_trim() {
+    let mut full = Lent::opened(CASE_B, 0, 3);
+    assert_eq!(full.append(0, 4000, 1), 0);
+    for clock in [14_000, 18_999, 19_000, 100_000_000_000] {
+        assert_eq!(full.append_trim(4000, 5000, 1, clock), 9);
+    }
+    assert_eq!(full.trim(14_000), 0);
+    assert_eq!(full.append_trim(4000, 5000, 1, 19_000), 0);
+    assert_eq!((full.record[ACCEPTED], full.record[DROPPED]), (2, 2));
+}
+
+#[test]
+fn b_spent_at_once_goes_by_the_clock_before_the_call() {
+    let mut no_room = Lent::opened(CASE_B, 0, 0);
+    assert_eq!(no_room.append_trim(0, 4000, 1, 14_000), 9);
+    assert_eq!(no_room.trim(14_000), 0);
+    assert_eq!(no_room.append_trim(0, 4000, 1, 0), 0);
+    assert_eq!((no_room.record[ACCEPTED], no_room.record[DROPPED]), (1, 1));
+}
+
 #[test]
 fn b_verdicts_without_trims() {
     let lent = case_b();

@@ -453,7 +453,7 @@ fn files_with_changed_bytes() {
             ..random_head(&mut generator)
         };
         let lines = random_s_lines(&mut generator, head);
-        let kind = generator.pick(&[file, old_file]);
+        let kind = if generator.one_in(2) { file } else { old_file };
         let mut bytes = kind(head, &lines).into_bytes();
         let feed = bytes.iter().position(|byte| *byte == b'\n');
         let feed = feed.expect("an ended head") as u64;

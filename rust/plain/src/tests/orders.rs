@@ -18,6 +18,7 @@ fn agreement_comes_before_all_else() {
     assert_eq!(lent.append(0, 0, 0), 2);
     assert_eq!(lent.append_stamp(0, 0, 0), 2);
     assert_eq!(lent.trim(u64::MAX), 2);
+    assert_eq!(lent.append_trim(0, 0, 0, u64::MAX), 2);
     assert_eq!(lent.verdict(u64::MAX), Err(2));
     assert_eq!(lent.verdict_whole(), Err(2));
     assert_eq!(lent.availability(u64::MAX), Err(2));
@@ -77,6 +78,35 @@ fn an_append_is_8_before_9() {
     assert_eq!(Lent::opened(SHORT, 1_000, 0).join(1, 1), 8);
     assert_eq!(Lent::opened(SHORT, 0, 0).join(1, 1_001), 8);
     assert_eq!(Lent::opened(SHORT, 0, 0).join(1, 1_000), 9);
+}
+
+/// Memory and an append that is refused in every way from 3 on that its number leaves standing.
+fn refused_appends() -> Vec<(Lent, u32, u32, u32, u32)> {
+    let high = Lent::opened(SHORT_NUMBERED, Tick::MAX, 0);
+    let past = Lent::opened(SHORT_NUMBERED, 1_000, 0);
+    vec![
+        (high.clone(), 0, 0, 0, 3),
+        (high.clone(), 0, u32::MAX, u32::MAX, 4),
+        (high.clone(), u32::MAX - 1, u32::MAX, u32::MAX, 5),
+        (high, u32::MAX, 1, 1, 6),
+        (past, 1_000, 1, 1, 7),
+        (Lent::opened(SHORT, 1_000, 0), 1_000, 1, 1, 8),
+        (Lent::opened(SHORT, 0, 0), 0, 1, 1, 9),
+    ]
+}
+
+#[test]
+fn an_append_with_a_trim_is_10_before_3_to_9() {
+    for (mut lent, stamp, duration, count, number) in refused_appends() {
+        for clock in [Millis::MAX + 1, u64::MAX] {
+            assert_eq!(lent.append_trim_by(stamp, duration, count, clock), (10, 0));
+        }
+        let alone = lent.append_stamp_by(stamp, duration, count);
+        assert_eq!(alone.0, number);
+        for clock in [0, 500, Millis::MAX] {
+            assert_eq!(lent.append_trim_by(stamp, duration, count, clock), alone);
+        }
+    }
 }
 
 #[test]

@@ -13,7 +13,7 @@ fn damaged() -> Lent {
     lent
 }
 
-/// What both appends refuse alike, with the start that joins for each.
+/// What all appends refuse alike, with the start that joins for each.
 fn appends_refuse(append: impl Fn(&mut Lent, u64, u32, u32) -> u32) {
     assert_eq!(append(&mut damaged(), 20_000, 1, 1), 2);
     let mut lent = case_b();
@@ -58,6 +58,18 @@ fn append() {
 #[test]
 fn append_stamp() {
     appends_refuse(|lent, start, duration, count| lent.append_stamp(start as u32, duration, count));
+}
+
+#[test]
+fn append_trim() {
+    for clock in [0, 30_000, Millis::MAX] {
+        appends_refuse(|lent, start, duration, count| {
+            lent.append_trim(start as u32, duration, count, clock)
+        });
+    }
+    assert_eq!(case_b().join_trim(4000, 1, Millis::MAX + 1), 10);
+    assert_eq!(case_b().join_trim(4000, 1, u64::MAX), 10);
+    assert_eq!(case_b().join_trim(4000, 1, Millis::MAX), 0);
 }
 
 #[test]
@@ -195,6 +207,8 @@ fn a_record_of_another_length_is_2_and_changes_nothing() {
             let out = &mut out[..length];
             assert_eq!(face::append(&mut record, &mut table, 0, 0, 0, out), 2);
             assert_eq!(face::append_stamp(&mut record, &mut table, 0, 0, 0, out), 2);
+            let pair = face::append_trim(&mut record, &mut table, 0, 0, 0, u64::MAX, out);
+            assert_eq!(pair, 2);
         }
         assert_eq!(face::trim(&mut record, &mut table, u64::MAX), 2);
         assert_eq!(face::verdict(&record, &table, u64::MAX, &mut out), 2);
@@ -252,6 +266,8 @@ fn an_out_of_another_length_is_15_before_agreement() {
                 face::append_stamp(&mut record, &mut table, 9, 1, 1, out),
                 15
             );
+            let pair = face::append_trim(&mut record, &mut table, 9, 0, 1, u64::MAX, out);
+            assert_eq!(pair, 15);
             assert_eq!(face::write(&record, &table, &mut bytes, out), 15);
         }
         assert_eq!(Lent { record, table }, lent);

@@ -182,6 +182,17 @@ impl Model {
         }
     }
 
+    fn append_trim(&mut self, stamp: u32, duration: u32, count: u32, clock: u64) -> By {
+        if clock > Millis::MAX {
+            return (10, 0);
+        }
+        let answer = self.append_stamp(stamp, duration, count);
+        if answer.0 == 0 {
+            self.trim(clock);
+        }
+        answer
+    }
+
     /// A gap or an overlap, and by how much.
     fn off_by(&self, start: i128) -> By {
         match start - self.next_tick {
@@ -314,7 +325,7 @@ fn call(generator: &mut Generator, lent: &mut Lent, model: &mut Model) {
     }
 }
 
-/// An append to both, by full tick or by stamp: most join.
+/// An append to both, by full tick, by stamp, or by stamp with a trim: most join.
 fn append(generator: &mut Generator, lent: &mut Lent, model: &mut Model) {
     let next_tick = lent.record[NEXT_TICK];
     let start = match generator.below(12) {
@@ -327,13 +338,21 @@ fn append(generator: &mut Generator, lent: &mut Lent, model: &mut Model) {
     };
     let duration = generator.pick(&[0, 1, 1, 2, 5, 5, 5, 9, 12, 40]);
     let count = generator.pick(&[0, 1, 1, 1, 2, 3, 4]);
-    if generator.one_in(3) {
-        let stamp = start as u32;
-        let expected = model.append_stamp(stamp, duration, count);
-        assert_eq!(lent.append_stamp_by(stamp, duration, count), expected);
-    } else {
-        let expected = model.append(start, duration, count);
-        assert_eq!(lent.append_by(start, duration, count), expected);
+    let stamp = start as u32;
+    match generator.below(3) {
+        0 => {
+            let expected = model.append_stamp(stamp, duration, count);
+            assert_eq!(lent.append_stamp_by(stamp, duration, count), expected);
+        }
+        1 => {
+            let clock = random_clock(generator);
+            let expected = model.append_trim(stamp, duration, count, clock);
+            assert_eq!(lent.append_trim_by(stamp, duration, count, clock), expected);
+        }
+        _ => {
+            let expected = model.append(start, duration, count);
+            assert_eq!(lent.append_by(start, duration, count), expected);
+        }
     }
 }
 
@@ -428,6 +447,38 @@ fn trims_and_appends_may_change_places() {
         }
     }
     assert!(accepted > 100, "{}", accepted);
+}
+
+#[test]
+fn an_append_with_a_trim_is_both_calls_or_neither() {
+    let (mut accepted, mut no_room, mut gaps) = (0, 0, 0);
+    for (mut generator, _, before) in random_states(600_000, 800) {
+        let (mut one_call, mut two_calls) = (before.clone(), before.clone());
+        let stamp = (before.record[NEXT_TICK] + generator.pick(&[0, 0, 0, 1])) as u32;
+        let duration = generator.between(1, 12) as u32;
+        let clock = generator.below(1_100);
+        match one_call.append_trim(stamp, duration, 3, clock) {
+            0 => {
+                accepted += 1;
+                assert_eq!(two_calls.append_stamp(stamp, duration, 3), 0);
+                assert_eq!(two_calls.trim(clock), 0);
+                assert_eq!(one_call, two_calls);
+            }
+            number => {
+                no_room += usize::from(number == 9);
+                gaps += usize::from(number == 4);
+                assert_eq!(two_calls.append_stamp(stamp, duration, 3), number);
+                assert_eq!(one_call, before);
+            }
+        }
+    }
+    assert!(
+        accepted > 100 && no_room > 50 && gaps > 50,
+        "{} accepted, {} without room, {} gaps",
+        accepted,
+        no_room,
+        gaps
+    );
 }
 
 #[test]

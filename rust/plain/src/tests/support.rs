@@ -133,9 +133,27 @@ impl Lent {
         })
     }
 
+    /// An append by stamp and then a trim, as one call.
+    pub fn append_trim(&mut self, stamp: u32, duration: u32, count: u32, clock: u64) -> u32 {
+        self.append_trim_by(stamp, duration, count, clock).0
+    }
+
+    pub fn append_trim_by(&mut self, stamp: u32, duration: u32, count: u32, clock: u64) -> By {
+        told(|out| {
+            self.change(|record, table| {
+                face::append_trim(record, table, stamp, duration, count, clock, out)
+            })
+        })
+    }
+
     /// An append that joins, whatever the next tick.
     pub fn join(&mut self, duration: u32, count: u32) -> u32 {
         self.append(self.record[NEXT_TICK], duration, count)
+    }
+
+    /// An append that joins and then a trim, as one call.
+    pub fn join_trim(&mut self, duration: u32, count: u32, clock: u64) -> u32 {
+        self.append_trim(self.record[NEXT_TICK] as u32, duration, count, clock)
     }
 
     pub fn trim(&mut self, clock: u64) -> u32 {
