@@ -3,7 +3,7 @@
 use mathlib.Core.Path.{_≡_, refl, sym, ap, _∙_}
 use mathlib.Core.List.{List, [], _∷_}
 use Prim.Native.Nat.{ℕ}
-use lib.ListN.{length, set}
+use lib.ListN.{length}
 use Rattle.units.proofs.Guards.{same, other}
 use Rattle.agreement.specs.declared.Record.{Record}
 use Rattle.keeping.specs.declared.Changed.{Changed}
@@ -14,8 +14,6 @@ use Rattle.writing.specs.declared.WriteAnswer.{WriteAnswer}
 use Rattle.words.specs.Words.{recordOf, wordsOf}
 use Rattle.words.specs.Lengths.{wrongRecord, wrongLength}
 use Rattle.words.specs.Tells.{Tells, writeTells, distanceOut}
-use Rattle.words.proofs.Words.{all-set}
-use Rattle.words.proofs.Lengths.{second-right}
 use Rattle.flonterri.specs.Face.{guarded, Changes, changes, tells, Leaves, leaves, appendsBy, readsBy, Writes, writesBy}
 
 -- ---- behind the lengths
@@ -168,15 +166,14 @@ module _ (ws ts out : List ℕ) (r : ℕ) (e : r ≡ wrongLength (length ws) (le
       → (n : ℕ)
       → n ≡ outcomeNumber (x .outcome)
       → (os : List ℕ)
-      → os ≡ set (set out 0 (x .line)) 1 (outcomeDistance (x .outcome))
+      → os ≡ x .line ∷ outcomeDistance (x .outcome) ∷ []
       → Left-to (readsBy ws ts out a new) n us vs os
   reads-by a new z x vs b v us p n q os o =
       leaves-by ws ts out 2 r e z _ _ _ _ _ _ _ _
       (q ∙ ap (λ y. outcomeNumber (y .outcome)) b)
       (p ∙ ap (λ y. wordsOf (y .rec)) b)
       v
-      (o ∙ all-set out (x .line ∷ outcomeDistance (x .outcome) ∷ []) (second-right r (length ws) (length out) 2 e z) ∙
-      ap (λ y. y .line ∷ outcomeDistance (y .outcome) ∷ []) b)
+      (o ∙ ap (λ y. y .line ∷ outcomeDistance (y .outcome) ∷ []) b)
 
 abbrev pub Written-to : Writes → ℕ → List ℕ → List ℕ → Type 0
 Written-to t n bytes out = (n ≡ t .number) × ((bytes ≡ t .bytes) × (out ≡ t .out))

@@ -40,6 +40,10 @@ module _ (o : Outcome) (out : List ℕ) (n : ℕ) (e : n ≡ outcomeNumber o) wh
   pub none-above : 5 < n → out ≡ distanceOut o out
   none-above l = sym (by-number false (ap₂ _||_ (ne-eqb n 4 (λ z. let w : ⊥ = omega arith in w)) (ne-eqb n 5 (λ z. let w : ⊥ = omega arith in w))))
 
+-- the line of a reading, and the distance of its outcome
+pub line-told : (o : Outcome) (out : List ℕ) (line d : ℕ) → length out ≡ 2 → d ≡ outcomeDistance o → set (set out 0 line) 1 d ≡ line ∷ outcomeDistance o ∷ []
+line-told o out line d two e = all-set out (line ∷ d ∷ []) two ∙ ap (λ (m : ℕ). line ∷ m ∷ []) e
+
 -- a verdict, whose percent comes of its own
 module _ (v : Verdict) (out : List ℕ) (percent : Percent) (p : ℕ) (f : percent ≡ verdictPercent v) (g : p ≡ percentNumber percent) (us : List ℕ) where
   at : (w : Verdict) → v ≡ w → p ≡ percentNumber (verdictPercent w)

@@ -1,6 +1,7 @@
 // What a reading gives back and a writing tells: the record, the line, the distance, the length.
 ghost use mathlib.Core.Path.{_≡_};
-ghost use lib.ListN.{length, set};
+ghost use mathlib.Core.List.{[], _∷_};
+ghost use lib.ListN.{length};
 ghost use Rattle.keeping.specs.Keeping.{outcomeNumber, outcomeDistance};
 ghost use Rattle.writing.specs.Writing.{writeNumber};
 ghost use Rattle.words.specs.Words.{wordsOf};
@@ -15,7 +16,7 @@ pub fn give_read(words: &mut [u64], out: &mut [u64], answer: ReadAnswer) -> u32
     requires { ⌜ (length (now words) ≡ 12) × (length (now out) ≡ 2) ⌝ }
     ensures { λ r. ⌜ r ≡ outcomeNumber (answer .outcome) ⌝ }
     ensures { λ _. ⌜ now (words .exit) ≡ wordsOf (answer .rec) ⌝ }
-    ensures { λ _. ⌜ now (out .exit) ≡ set (set (now (out .entry)) 0 (answer .line)) 1 (outcomeDistance (answer .outcome)) ⌝ }
+    ensures { λ _. ⌜ now (out .exit) ≡ answer .line ∷ outcomeDistance (answer .outcome) ∷ [] ⌝ }
 {
     put_record(words, answer.rec);
     let outcome = answer.outcome;
