@@ -52,13 +52,15 @@ use Rattle.lookups.proofs.Numbering.{after}
 use Rattle.file.specs.declared.Reading.{Reading}
 use Rattle.file.specs.Judging.{readOutcome, readAnswer, answeredBy, readLines}
 use Rattle.file.proofs.Accepted.{read-agrees}
-use Rattle.flonterri.specs.Words.{recordWords, recordOf, wordsOf, headWith}
-use Rattle.flonterri.specs.Tells.{Tells, availabilityTells, touchingTells, availableTells, fullTickTells}
-use Rattle.flonterri.specs.Face.{wrongRecord, wrongLength, guarded, Changes, changes, opens, appendsBy, appends, appendsStamp, appendsTrim, trims, tells, tellsTouching, tellsAvailability, Leaves, leaves, reads}
+use Rattle.words.specs.Words.{recordWords, recordOf, wordsOf, headWith}
+use Rattle.words.specs.Lengths.{wrongRecord, wrongLength}
+use Rattle.words.specs.Tells.{Tells, availabilityTells, touchingTells, availableTells, fullTickTells}
+use Rattle.words.proofs.Words.{record-words}
+use Rattle.words.proofs.Lengths.{both-right}
+use Rattle.flonterri.specs.Face.{guarded, Changes, changes, opens, appendsBy, appends, appendsStamp, appendsTrim, trims, tells, tellsTouching, tellsAvailability, Leaves, leaves, reads}
 use Rattle.flonterri.specs.Face.{tellsAvailable, tellsFullTick}
 use Rattle.flonterri.specs.Binding.{agreed, LeavesAgreed, TellsAgreed, Binding}
-use Rattle.flonterri.proofs.Words.{record-words}
-use Rattle.flonterri.proofs.Lengths.{both-right, behind}
+use Rattle.flonterri.proofs.Facing.{behind}
 
 -- ---- the calls that change
 

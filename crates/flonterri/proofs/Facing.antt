@@ -1,20 +1,31 @@
 -- What an exported call comes to: all as it came where a length is wrong, else what the call behind it answers for the record
 -- that the words mean.
-use mathlib.Core.Path.{_≡_, refl, ap, _∙_}
+use mathlib.Core.Path.{_≡_, refl, sym, ap, _∙_}
 use mathlib.Core.List.{List, [], _∷_}
 use Prim.Native.Nat.{ℕ}
-use lib.ListN.{length, set}
+use lib.ListN.{length}
+use Rattle.units.proofs.Guards.{same, other}
 use Rattle.agreement.specs.declared.Record.{Record}
 use Rattle.keeping.specs.declared.Changed.{Changed}
 use Rattle.keeping.specs.declared.Outcome.{Outcome}
 use Rattle.keeping.specs.Keeping.{outcomeNumber, outcomeDistance}
 use Rattle.file.specs.declared.ReadAnswer.{ReadAnswer}
 use Rattle.writing.specs.declared.WriteAnswer.{WriteAnswer}
-use Rattle.flonterri.specs.Words.{recordOf, wordsOf}
-use Rattle.flonterri.specs.Tells.{Tells, writeTells, distanceOut}
-use Rattle.flonterri.specs.Face.{wrongRecord, wrongLength, Changes, changes, tells, Leaves, leaves, appendsBy, readsBy, Writes, writesBy}
-use Rattle.flonterri.proofs.Words.{all-set}
-use Rattle.flonterri.proofs.Lengths.{stopped, behind, second-right}
+use Rattle.words.specs.Words.{recordOf, wordsOf}
+use Rattle.words.specs.Lengths.{wrongRecord, wrongLength}
+use Rattle.words.specs.Tells.{Tells, writeTells, distanceOut}
+use Rattle.flonterri.specs.Face.{guarded, Changes, changes, tells, Leaves, leaves, appendsBy, readsBy, Writes, writesBy}
+
+-- ---- behind the lengths
+
+module _ {A : Type 0} (wrong : ℕ) (came : ℕ → A) (call : A) (r : ℕ) (e : r ≡ wrong) where
+  pub stopped : (r ≡ 0 → ⊥) → came r ≡ guarded wrong came call
+  unfolding guarded
+  stopped k = other wrong 0 _ _ _ (λ h. k (e ∙ h)) (ap came e)
+
+  pub behind : r ≡ 0 → call ≡ guarded wrong came call
+  unfolding guarded
+  behind z = same wrong 0 _ _ (sym e ∙ z)
 
 -- ---- the calls that change
 
@@ -155,15 +166,14 @@ module _ (ws ts out : List ℕ) (r : ℕ) (e : r ≡ wrongLength (length ws) (le
       → (n : ℕ)
       → n ≡ outcomeNumber (x .outcome)
       → (os : List ℕ)
-      → os ≡ set (set out 0 (x .line)) 1 (outcomeDistance (x .outcome))
+      → os ≡ x .line ∷ outcomeDistance (x .outcome) ∷ []
       → Left-to (readsBy ws ts out a new) n us vs os
   reads-by a new z x vs b v us p n q os o =
       leaves-by ws ts out 2 r e z _ _ _ _ _ _ _ _
       (q ∙ ap (λ y. outcomeNumber (y .outcome)) b)
       (p ∙ ap (λ y. wordsOf (y .rec)) b)
       v
-      (o ∙ all-set out (x .line ∷ outcomeDistance (x .outcome) ∷ []) (second-right r (length ws) (length out) 2 e z) ∙
-      ap (λ y. y .line ∷ outcomeDistance (y .outcome) ∷ []) b)
+      (o ∙ ap (λ y. y .line ∷ outcomeDistance (y .outcome) ∷ []) b)
 
 abbrev pub Written-to : Writes → ℕ → List ℕ → List ℕ → Type 0
 Written-to t n bytes out = (n ≡ t .number) × ((bytes ≡ t .bytes) × (out ≡ t .out))

@@ -39,11 +39,13 @@ use Rattle.file.specs.Judging.{readLines, readOutcome, answeredBy, readAnswer, 
 use Rattle.writing.specs.declared.WriteAnswer.{WriteAnswer}
 use Rattle.writing.specs.declared.WriteAnswer.the-variants as written
 use Rattle.writing.specs.Writing.{writeAnswer, outputBy, fileFor}
-use Rattle.flonterri.specs.Words.{recordWords, recordOf, wordsOf, headWith}
-use Rattle.flonterri.specs.Tells.{Tells, verdictOut, verdictTells, availabilityOut, availabilityTells, touchingOut, touchingTells, writeOut, writeTells, availableOut, availableTells, fullTickOut, fullTickTells, edgeOut, edgeTells, distanceOut}
-use Rattle.flonterri.specs.Face.{wrongRecord, wrongLength, guarded, Changes, changes, opens, trims, Leaves, leaves, tells, tellsVerdict, tellsWhole, tellsAvailability, tellsTouching, reads, Writes, writesBy, writes, tellsAvailable, tellsFullTick, tellsEdge}
-use Rattle.flonterri.proofs.Words.{words-record}
-use Rattle.flonterri.proofs.Lengths.{both-right, behind}
+use Rattle.words.specs.Words.{recordWords, recordOf, wordsOf, headWith}
+use Rattle.words.specs.Lengths.{wrongRecord, wrongLength}
+use Rattle.words.specs.Tells.{Tells, verdictOut, verdictTells, availabilityOut, availabilityTells, touchingOut, touchingTells, writeOut, writeTells, availableOut, availableTells, fullTickOut, fullTickTells, edgeOut, edgeTells, distanceOut}
+use Rattle.words.proofs.Words.{words-record}
+use Rattle.words.proofs.Lengths.{both-right}
+use Rattle.flonterri.specs.Face.{guarded, Changes, changes, opens, trims, Leaves, leaves, tells, tellsVerdict, tellsWhole, tellsAvailability, tellsTouching, reads, Writes, writesBy, writes, tellsAvailable, tellsFullTick, tellsEdge}
+use Rattle.flonterri.proofs.Facing.{behind}
 
 -- ---- the calls that change
 

@@ -12,7 +12,7 @@ use lib.IntN.{ℤ}
 use lib.ListN.{length, replicate}
 use Rattle.units.specs.Limits.{largestSpan, largestMillis, largestNumber}
 use Rattle.agreement.specs.Agreement.{kept, agrees}
-use Rattle.flonterri.specs.Words.{recordWords, recordOf}
+use Rattle.words.specs.Words.{recordWords, recordOf}
 use Rattle.flonterri.specs.Face.{Changes, Leaves, opens, appends, appendsStamp, appendsTrim, trims, tellsTouching, tellsAvailability, reads, tellsAvailable, tellsFullTick}
 
 -- whether the record that words mean agrees with a table

@@ -1,15 +1,12 @@
 -- What C and Rust see of a call: the paper's refusal number, 0 where the call is accepted, and every word and byte lent to it when it returns.
--- Lengths are judged before all else: a record that is not of 12 words is refused with 2, then an out that is not of its length with 15, and both
--- leave all memory as it came. Behind the lengths each call is the one that Rattle code makes, for the record that the words mean. In what follows
--- ws are the record's words as they came, ts the table's. Paper: Refusal numbers.
+-- Lengths are judged before all else, and where one is wrong all memory stays as it came. Behind the lengths each call is the one that Rattle
+-- code makes, for the record that the words mean. In what follows ws are the record's words as they came, ts the table's. Paper: Refusal numbers.
 use Prim.Native.Nat.{ℕ}
 use mathlib.Core.List.{List, [], _∷_}
 use lib.Dec.{eqb}
 use lib.ListN.{length}
 use lib.IntN.{ℤ}
 use Rattle.units.specs.Standing.{tickStanding, stampStanding}
-use Rattle.agreement.specs.declared.refusal.Refusal.the-variants.{Disagreement, ShortOutput}
-use Rattle.agreement.specs.Numbers.{refusalNumber}
 use Rattle.agreement.specs.Rows.{_unless_else_}
 use Rattle.agreement.specs.declared.Record.{Record}
 use Rattle.keeping.specs.declared.Changed.{Changed}
@@ -28,23 +25,13 @@ use Rattle.file.specs.declared.ReadAnswer.{ReadAnswer}
 use Rattle.file.specs.Judging.{readAnswer, readTable}
 use Rattle.writing.specs.declared.WriteAnswer.{WriteAnswer}
 use Rattle.writing.specs.Writing.{writeAnswer, outputBy, fileFor}
-use Rattle.flonterri.specs.Words.{recordWords, headWith, recordOf, wordsOf}
-use Rattle.flonterri.specs.Tells.{Tells, verdictTells, availabilityTells, touchingTells, writeTells, availableTells, fullTickTells, edgeTells, distanceOut}
+use Rattle.words.specs.Words.{headWith, recordOf, wordsOf}
+use Rattle.words.specs.Lengths.{wrongRecord, wrongLength}
+use Rattle.words.specs.Tells.{Tells, verdictTells, availabilityTells, touchingTells, writeTells, availableTells, fullTickTells, edgeTells, distanceOut}
 
 -- ---- guarded by lengths
 
--- the number by the record's length, 0 where it is right
-unfoldable pub wrongRecord : ℕ → ℕ
-wrongRecord words = refusalNumber Disagreement unless eqb words recordWords else 0
-
--- the same, and then by the length of out, which must be size
-unfoldable pub wrongLength : ℕ → ℕ → ℕ → ℕ
-wrongLength words out size =
-    refusalNumber Disagreement unless eqb words recordWords else
-    refusalNumber ShortOutput unless eqb out size else
-    0
-
--- by that number: 0 and the call comes to what stands behind, else all is as it came
+-- by the number of the lengths: 0 and the call comes to what stands behind, else all is as it came
 unfoldable pub guarded : {A : Type 0} → ℕ → (ℕ → A) → A → A
 guarded wrong came call = came wrong unless eqb wrong 0 else call
 

@@ -1,4 +1,2 @@
-pub mod Words
-pub mod Tells
 pub mod Face
 pub mod Binding

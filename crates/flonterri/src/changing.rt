@@ -1,20 +1,15 @@
 // The calls that change: open, append, trim, and append then trim in one. The record and the table are the caller's words.
 ghost use mathlib.Core.Path.{_≡_};
-ghost use lib.ListN.{length};
-ghost use Rattle.keeping.specs.Keeping.{outcomeNumber};
-ghost use Rattle.flonterri.specs.Words.{wordsOf};
-ghost use Rattle.flonterri.specs.Tells.{distanceOut};
 ghost use Rattle.flonterri.specs.Face.{opens, appends, appendsStamp, appendsTrim, trims};
-use crate::packing::give_back;
-use crate::packing::record_of;
-use crate::packing::wrong_length;
-use crate::packing::wrong_record;
-use keeping::Changed;
-use keeping::Outcome;
 use units::Stamp;
 use units::WideMillis;
 use units::WideTick;
 use window::HeadFields;
+use words::give_appended;
+use words::give_back;
+use words::record_of;
+use words::wrong_length;
+use words::wrong_record;
 
 // Opens a timeline over a table.
 #[no_mangle]
@@ -52,39 +47,6 @@ pub extern "C" fn flonterri_open(
 }
 
 const DISTANCE_WORDS: usize = 1;
-
-// The numbers that a distance comes with: 4 and 5, and none between them.
-const GAP: u32 = 4;
-
-const OVERLAP: u32 = 5;
-
-// Inner, since out must have its length: puts the distance of a gap or an overlap there.
-fn put_distance(out: &mut [u64], outcome: Outcome)
-    requires { ⌜ length (now out) ≡ 1 ⌝ }
-    ensures { λ _. ⌜ now (out .exit) ≡ distanceOut outcome (now (out .entry)) ⌝ }
-{
-    let number = outcome.number();
-    if number < GAP {
-        return;
-    }
-    if OVERLAP < number {
-        return;
-    }
-    out[0] = outcome.distance();
-}
-
-// Inner, since record and out must have their lengths: writes back the record that an append answers and
-// its distance, and answers the number of its outcome.
-fn give_appended(words: &mut [u64], out: &mut [u64], changed: Changed) -> u32
-    requires { ⌜ (length (now words) ≡ 12) × (length (now out) ≡ 1) ⌝ }
-    ensures { λ r. ⌜ r ≡ outcomeNumber (changed .outcome) ⌝ }
-    ensures { λ _. ⌜ now (words .exit) ≡ wordsOf (changed .rec) ⌝ }
-    ensures { λ _. ⌜ now (out .exit) ≡ distanceOut (changed .outcome) (now (out .entry)) ⌝ }
-{
-    let outcome = changed.outcome;
-    put_distance(out, outcome);
-    give_back(words, changed)
-}
 
 // Appends references whose start is a full tick.
 #[no_mangle]

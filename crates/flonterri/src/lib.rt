@@ -4,7 +4,6 @@ mod asking;
 mod changing;
 mod filing;
 mod looking;
-mod packing;
 
 pub use asking::flonterri_available_at;
 pub use asking::flonterri_full_tick;

@@ -42,11 +42,13 @@ use Rattle.file.specs.Feeding.{belongs, fedFile, fedReader, fedTable, finishOut
 use Rattle.writing.specs.declared.WriteAnswer.{WriteAnswer}
 use Rattle.writing.specs.declared.WriteAnswer.the-variants as written
 use Rattle.writing.specs.Writing.{writeNumber, outputBy}
-use Rattle.flonterri.specs.Words.{recordWords, wordsOf}
-use Rattle.flonterri.specs.Tells.{Tells, verdictTells, availabilityTells, touchingTells, edgeTells, writeTells, availableTells, fullTickTells}
-use Rattle.flonterri.specs.Face.{wrongRecord, wrongLength, guarded, changes, tells, leaves, reads, writesBy, Changes as Seen, Leaves as Left, Writes as Wrote}
+use Rattle.words.specs.Words.{recordWords, wordsOf}
+use Rattle.words.specs.Lengths.{wrongRecord, wrongLength}
+use Rattle.words.specs.Tells.{Tells, verdictTells, availabilityTells, touchingTells, edgeTells, writeTells, availableTells, fullTickTells}
+use Rattle.words.proofs.Lengths.{both-right}
+use Rattle.flonterri.specs.Face.{guarded, changes, tells, leaves, reads, writesBy, Changes as Seen, Leaves as Left, Writes as Wrote}
+use Rattle.flonterri.proofs.Facing.{behind}
 use Rattle.flonterri.proofs.Refusing.{read-refused}
-use Rattle.flonterri.proofs.Lengths.{both-right, behind}
 use Rattle.agreement.proofs.Numbers.{refusal-some}
 use Rattle.laws.specs.Refusals.{lowest, isApart, distanceWith}
 use Rattle.laws.specs.Demand1.{GivesNumber, Changes, Only, Zeroes, Reads, Feeds, Finishes, recordRows, lengthRows, ChangesFromC, AppendsFromC, TellsC, ReadsFromC}

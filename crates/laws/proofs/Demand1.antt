@@ -26,8 +26,8 @@ use Rattle.lookups.specs.Stamps.{fullTickIn}
 use Rattle.lookups.specs.Spans.{touchingWords}
 use Rattle.lookups.specs.Numbers.{availabilityNumber, availableNumber, touchingNumber, fullTickNumber}
 use Rattle.writing.specs.Writing.{writeNumber, writeAnswer, fileFor}
-use Rattle.flonterri.specs.Words.{recordOf, headWith}
-use Rattle.flonterri.specs.Tells.{verdictTells, availabilityTells, touchingTells, availableTells, fullTickTells, edgeTells}
+use Rattle.words.specs.Words.{recordOf, headWith}
+use Rattle.words.specs.Tells.{verdictTells, availabilityTells, touchingTells, availableTells, fullTickTells, edgeTells}
 use Rattle.flonterri.specs.Face.{opens, appends, appendsStamp, appendsTrim, trims, tellsVerdict, tellsWhole, tellsAvailability, tellsTouching, writes, tellsAvailable, tellsFullTick, tellsEdge}
 use Rattle.flonterri.proofs.Refusing as refusing
 use Rattle.laws.specs.Refusals.{lowest, distanceWith, overLimit, openRows, appendTickRows, appendStampRows, pairRows, trimRows, verdictRows, wholeRows, availabilityRows, touchingRows, writeRows, availableRows, fullTickRows, edgeRows}

@@ -45,7 +45,7 @@ use Rattle.answers.proofs.Cases.{to-lacking, asked-at}
 use Rattle.answers.proofs.Agreed.{none-reach, first-reach, kept-cover}
 use Rattle.answers.proofs.Completeness.{complete-at}
 use Rattle.answers.proofs.Edging.{Latest, latest-right, right-is, by-clock, by-end, not-later}
-use Rattle.flonterri.specs.Words.{headWith}
+use Rattle.words.specs.Words.{headWith}
 use Rattle.laws.specs.Calls.{State}
 use Rattle.laws.specs.Demand2.{MayAsk, atClock}
 use Rattle.laws.specs.ByHand.{headA, headB, headD, stateOf}

@@ -32,7 +32,7 @@ use Rattle.answers.specs.declared.Verdict.the-variants.{Complete, Lacking}
 use Rattle.answers.specs.Judgement.{verdictAt}
 use Rattle.answers.specs.Edge.{coveredEdge}
 use Rattle.answers.proofs.Judging.{all-covered, end-lacking}
-use Rattle.flonterri.specs.Words.{headWith}
+use Rattle.words.specs.Words.{headWith}
 use Rattle.laws.specs.Calls.{State}
 use Rattle.laws.specs.ByHand.{wide, millis, trimming, stateOf}
 use Rattle.laws.specs.Update.{withUpdate, withDepth, headU, fiveU, UpdateRight}

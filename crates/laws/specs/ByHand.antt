@@ -33,7 +33,7 @@ use Rattle.hex.specs.Ascii.{ascii}
 use Rattle.file.specs.Judging.{readAnswer, readTable}
 use Rattle.writing.specs.declared.WriteAnswer.the-variants.{Written}
 use Rattle.writing.specs.Writing.{writeAnswer, writeNumber}
-use Rattle.flonterri.specs.Words.{headWith}
+use Rattle.words.specs.Words.{headWith}
 use Rattle.laws.specs.Calls.{State, opening, byTick, byStamp, trimAt, after, outcomeOf}
 use Rattle.laws.specs.Demand2.{output}
 

@@ -35,7 +35,7 @@ use Rattle.file.specs.declared.Reader.{Reader}
 use Rattle.file.specs.declared.ReadAnswer.{ReadAnswer}
 use Rattle.file.specs.Feeding.{belongs}
 use Rattle.writing.specs.Writing.{writeNumber}
-use Rattle.flonterri.specs.Words.{recordWords, headWith, recordOf}
+use Rattle.words.specs.Words.{recordWords, headWith, recordOf}
 use Rattle.timeline.proofs as timeline
 use Rattle.answers.proofs as answers
 use Rattle.lookups.proofs as lookups

@@ -14,7 +14,7 @@ use Rattle.window.specs.Place.{endKnown, periodEnd, beforeEnd}
 use Rattle.window.specs.Window.{lowEdge, Spent}
 use Rattle.window.specs.References.{Each}
 use Rattle.runs.specs.Words.{repeated}
-use Rattle.flonterri.specs.Words.{headWith}
+use Rattle.words.specs.Words.{headWith}
 use Rattle.laws.specs.Calls.{State, opening}
 use Rattle.laws.specs.ByHand.{tick, full, appending, trimming, stateOf, headB}
 

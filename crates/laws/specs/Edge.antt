@@ -25,7 +25,7 @@ use Rattle.answers.specs.declared.Verdict.the-variants.{Complete, Lacking}
 use Rattle.answers.specs.declared.CoveredEdge.the-variants.{At, Never, Refused}
 use Rattle.answers.specs.Judgement.{verdictAt}
 use Rattle.answers.specs.Edge.{atOrBefore, coveredEdge}
-use Rattle.flonterri.specs.Words.{headWith}
+use Rattle.words.specs.Words.{headWith}
 use Rattle.laws.specs.Calls.{State, opening}
 use Rattle.laws.specs.Demand2.{MayAsk, atClock}
 use Rattle.laws.specs.ByHand.{tick, full, bothA, fiveB, twoD}

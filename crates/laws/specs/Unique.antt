@@ -17,6 +17,7 @@ use Rattle.lookups.proofs as lookups
 use Rattle.file.proofs as file
 use Rattle.writing.proofs as writing
 use Rattle.report.proofs as report
+use Rattle.words.proofs as words
 use Rattle.flonterri.proofs as c
 
 -- ---- names for what is lent to change
@@ -55,6 +56,10 @@ out-after-two = λ (_, (_, (_, (_, (out, _))))). now out
 -- C: record, table, ..
 abbrev pub record-and-table : {A B R : Type 0} → RefT A × (RefT B × R) → A × B
 record-and-table = λ (rec, (table, _)). (now rec, now table)
+
+-- words of a record, out, ..
+abbrev pub record-and-out : {A B R : Type 0} → RefT A × (RefT B × R) → A × B
+record-and-out = λ (rec, (out, _)). (now rec, now out)
 
 -- C: record, table, start, duration, count, out
 abbrev pub appended : {A B P Q S C R : Type 0} → RefT A × (RefT B × (P × (Q × (S × (RefT C × R))))) → A × B × C
@@ -168,6 +173,9 @@ pub record Entries : Type 0 where
   pub c-covered-edge : Lending c.flonterri_covered_edge.Reads.Asked c.flonterri_covered_edge.Reads.Learnt out
   pub c-read : Lending c.flonterri_read.Reads.Asked c.flonterri_read.Reads.Learnt record-table-out
   pub c-write : Lending c.flonterri_write.Reads.Asked c.flonterri_write.Reads.Learnt bytes-and-out
+  -- words
+  pub wrong-record : Entry words.wrong_record.Reads.Asked words.wrong_record.Reads.Learnt
+  pub wrong-length : Entry words.wrong_length.Reads.Asked words.wrong_length.Reads.Learnt
   -- keeping
   pub outcome-number : Entry keeping.Outcome.number.Reads.Asked keeping.Outcome.number.Reads.Learnt
   pub outcome-distance : Entry keeping.Outcome.distance.Reads.Asked keeping.Outcome.distance.Reads.Learnt
@@ -210,6 +218,27 @@ pub record Entries : Type 0 where
 
 -- the inner functions that are public: their callers show what they ask
 pub record Inner : Type 0 where
+  pub record-of : OneResult words.record_of.Reads.Learnt
+  pub give-back : OneResult words.give_back.Reads.Learnt
+  pub give-back-words : OneLent words.give_back.Reads.Learnt first
+  pub give-appended : OneResult words.give_appended.Reads.Learnt
+  pub give-appended-words : OneLent words.give_appended.Reads.Learnt record-and-out
+  pub give-read : OneResult words.give_read.Reads.Learnt
+  pub give-read-words : OneLent words.give_read.Reads.Learnt record-and-out
+  pub tell-verdict : OneResult words.tell_verdict.Reads.Learnt
+  pub tell-verdict-words : OneLent words.tell_verdict.Reads.Learnt first
+  pub tell-edge : OneResult words.tell_edge.Reads.Learnt
+  pub tell-edge-words : OneLent words.tell_edge.Reads.Learnt first
+  pub tell-availability : OneResult words.tell_availability.Reads.Learnt
+  pub tell-availability-words : OneLent words.tell_availability.Reads.Learnt first
+  pub tell-available : OneResult words.tell_available.Reads.Learnt
+  pub tell-available-words : OneLent words.tell_available.Reads.Learnt first
+  pub tell-full-tick : OneResult words.tell_full_tick.Reads.Learnt
+  pub tell-full-tick-words : OneLent words.tell_full_tick.Reads.Learnt first
+  pub tell-touching : OneResult words.tell_touching.Reads.Learnt
+  pub tell-touching-words : OneLent words.tell_touching.Reads.Learnt first
+  pub tell-written : OneResult words.tell_written.Reads.Learnt
+  pub tell-written-words : OneLent words.tell_written.Reads.Learnt first
   pub append-joined : OneResult keeping.append_joined.Reads.Learnt
   pub append-joined-words : OneLent keeping.append_joined.Reads.Learnt table
   pub count-passed : OneResult keeping.count_passed.Reads.Learnt

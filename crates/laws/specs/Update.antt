@@ -16,7 +16,7 @@ use Rattle.answers.specs.declared.Verdict.the-variants.{Complete, Lacking}
 use Rattle.answers.specs.declared.CoveredEdge.the-variants.{At}
 use Rattle.answers.specs.Judgement.{verdictAt}
 use Rattle.answers.specs.Edge.{coveredEdge}
-use Rattle.flonterri.specs.Words.{headWith}
+use Rattle.words.specs.Words.{headWith}
 use Rattle.laws.specs.Calls.{State, opening}
 use Rattle.laws.specs.ByHand.{tick, wide, millis, full, appending, trimming, stateOf}
 use Rattle.laws.specs.Edge.{clock}

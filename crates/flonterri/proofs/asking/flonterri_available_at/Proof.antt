@@ -1,9 +1,9 @@
 -- `flonterri_available_at` meets its contract: refused for a length, or what the answer tells.
 use borrow.Author.Needs.{needs}
 use Rattle.lookups.specs.Available.{availableIn}
-use Rattle.flonterri.specs.Tells.{availableTells}
+use Rattle.words.specs.Tells.{availableTells}
+use Rattle.words.proofs.Lengths.{first-right, second-right}
 use Rattle.flonterri.specs.Face.{tellsAvailable}
-use Rattle.flonterri.proofs.Lengths.{first-right, second-right}
 use Rattle.flonterri.proofs.Facing.{tells-nothing, tells-by}
 use Rattle.flonterri.proofs.asking.flonterri_available_at.Statement.{statement}
 use Rattle.flonterri.proofs.asking.flonterri_available_at.Tie as tie

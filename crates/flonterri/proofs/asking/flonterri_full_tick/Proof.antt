@@ -1,9 +1,9 @@
 -- `flonterri_full_tick` meets its contract: refused for a length, or what the answer tells.
 use borrow.Author.Needs.{needs}
 use Rattle.lookups.specs.Stamps.{fullTickIn}
-use Rattle.flonterri.specs.Tells.{fullTickTells}
+use Rattle.words.specs.Tells.{fullTickTells}
+use Rattle.words.proofs.Lengths.{first-right, second-right}
 use Rattle.flonterri.specs.Face.{tellsFullTick}
-use Rattle.flonterri.proofs.Lengths.{first-right, second-right}
 use Rattle.flonterri.proofs.Facing.{tells-nothing, tells-by}
 use Rattle.flonterri.proofs.asking.flonterri_full_tick.Statement.{statement}
 use Rattle.flonterri.proofs.asking.flonterri_full_tick.Tie as tie

@@ -2,8 +2,8 @@
 use borrow.Author.Needs.{needs}
 use Rattle.units.specs.Standing.{tickStanding}
 use Rattle.timeline.specs.Appending.{appendAnswer, appendTable}
+use Rattle.words.proofs.Lengths.{first-right, second-right}
 use Rattle.flonterri.specs.Face.{appends}
-use Rattle.flonterri.proofs.Lengths.{first-right, second-right}
 use Rattle.flonterri.proofs.Facing.{leaves-nothing, appended}
 use Rattle.flonterri.proofs.changing.flonterri_append.Statement.{statement}
 use Rattle.flonterri.proofs.changing.flonterri_append.Tie as tie

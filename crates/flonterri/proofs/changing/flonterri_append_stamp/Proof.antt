@@ -6,8 +6,8 @@ use Rattle.units.specs.Standing.{stampStanding}
 use Rattle.agreement.specs.declared.Record.{Record}
 use Rattle.keeping.specs.declared.Changed.{Changed}
 use Rattle.timeline.specs.Appending.{appendAnswer, appendTable}
+use Rattle.words.proofs.Lengths.{first-right, second-right}
 use Rattle.flonterri.specs.Face.{appendsStamp}
-use Rattle.flonterri.proofs.Lengths.{first-right, second-right}
 use Rattle.flonterri.proofs.Facing.{leaves-nothing, append-number, append-words, append-table, append-out}
 use Rattle.flonterri.proofs.changing.flonterri_append_stamp.Statement.{statement}
 use Rattle.flonterri.proofs.changing.flonterri_append_stamp.Tie as tie

@@ -2,8 +2,8 @@
 use borrow.Author.Needs.{needs}
 use Rattle.units.specs.Standing.{stampStanding}
 use Rattle.timeline.specs.Pair.{pairAnswer, pairTable}
+use Rattle.words.proofs.Lengths.{first-right, second-right}
 use Rattle.flonterri.specs.Face.{appendsTrim}
-use Rattle.flonterri.proofs.Lengths.{first-right, second-right}
 use Rattle.flonterri.proofs.Facing.{leaves-nothing, appended}
 use Rattle.flonterri.proofs.changing.flonterri_append_trim.Statement.{statement}
 use Rattle.flonterri.proofs.changing.flonterri_append_trim.Tie as tie

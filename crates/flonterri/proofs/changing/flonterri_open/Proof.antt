@@ -3,9 +3,9 @@ use borrow.Author.Needs.{needs}
 use mathlib.Core.Path.{refl}
 use Rattle.units.specs.declared.Tick.{Tick}
 use Rattle.timeline.specs.Opening.{openAnswer, openTable}
-use Rattle.flonterri.specs.Words.{headWith}
+use Rattle.words.specs.Words.{headWith}
+use Rattle.words.proofs.Lengths.{is-record}
 use Rattle.flonterri.specs.Face.{opens}
-use Rattle.flonterri.proofs.Lengths.{is-record}
 use Rattle.flonterri.proofs.Facing.{changes-nothing, changes-by}
 use Rattle.flonterri.proofs.changing.flonterri_open.Statement.{statement}
 use Rattle.flonterri.proofs.changing.flonterri_open.Tie as tie

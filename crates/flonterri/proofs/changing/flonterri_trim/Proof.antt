@@ -1,8 +1,8 @@
 -- `flonterri_trim` meets its contract: refused for the record's length, or the trim's own answer.
 use borrow.Author.Needs.{needs}
 use Rattle.timeline.specs.Trimming.{trimAnswer, trimTable}
+use Rattle.words.proofs.Lengths.{is-record}
 use Rattle.flonterri.specs.Face.{trims}
-use Rattle.flonterri.proofs.Lengths.{is-record}
 use Rattle.flonterri.proofs.Facing.{changes-nothing, changes-by}
 use Rattle.flonterri.proofs.changing.flonterri_trim.Statement.{statement}
 use Rattle.flonterri.proofs.changing.flonterri_trim.Tie as tie

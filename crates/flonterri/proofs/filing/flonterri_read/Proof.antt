@@ -1,7 +1,7 @@
 -- `flonterri_read` meets its contract: refused for a length, or the reading's own answer.
 use borrow.Author.Needs.{needs}
+use Rattle.words.proofs.Lengths.{first-right, second-right}
 use Rattle.flonterri.specs.Face.{reads}
-use Rattle.flonterri.proofs.Lengths.{first-right, second-right}
 use Rattle.flonterri.proofs.Facing.{leaves-nothing, reads-by}
 use Rattle.flonterri.proofs.filing.flonterri_read.Statement.{statement}
 use Rattle.flonterri.proofs.filing.flonterri_read.Tie as tie

@@ -2,9 +2,9 @@
 use borrow.Author.Needs.{needs}
 use lib.ListN.{length}
 use Rattle.writing.specs.Writing.{writeAnswer, outputBy, fileFor}
-use Rattle.flonterri.specs.Tells.{writeTells}
+use Rattle.words.specs.Tells.{writeTells}
+use Rattle.words.proofs.Lengths.{first-right, second-right}
 use Rattle.flonterri.specs.Face.{writes}
-use Rattle.flonterri.proofs.Lengths.{first-right, second-right}
 use Rattle.flonterri.proofs.Facing.{writes-nothing, writes-by}
 use Rattle.flonterri.proofs.filing.flonterri_write.Statement.{statement}
 use Rattle.flonterri.proofs.filing.flonterri_write.Tie as tie

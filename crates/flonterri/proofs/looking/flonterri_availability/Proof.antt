@@ -1,9 +1,9 @@
 -- `flonterri_availability` meets its contract: refused for a length, or what the answer tells.
 use borrow.Author.Needs.{needs}
 use Rattle.lookups.specs.Available.{availabilityIn}
-use Rattle.flonterri.specs.Tells.{availabilityTells}
+use Rattle.words.specs.Tells.{availabilityTells}
+use Rattle.words.proofs.Lengths.{first-right, second-right}
 use Rattle.flonterri.specs.Face.{tellsAvailability}
-use Rattle.flonterri.proofs.Lengths.{first-right, second-right}
 use Rattle.flonterri.proofs.Facing.{tells-nothing, tells-by}
 use Rattle.flonterri.proofs.looking.flonterri_availability.Statement.{statement}
 use Rattle.flonterri.proofs.looking.flonterri_availability.Tie as tie

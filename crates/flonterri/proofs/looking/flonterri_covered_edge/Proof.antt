@@ -1,9 +1,9 @@
 -- `flonterri_covered_edge` meets its contract: refused for a length, or what the answer tells.
 use borrow.Author.Needs.{needs}
 use Rattle.answers.specs.Edge.{coveredEdge}
-use Rattle.flonterri.specs.Tells.{edgeTells}
+use Rattle.words.specs.Tells.{edgeTells}
+use Rattle.words.proofs.Lengths.{first-right, second-right}
 use Rattle.flonterri.specs.Face.{tellsEdge}
-use Rattle.flonterri.proofs.Lengths.{first-right, second-right}
 use Rattle.flonterri.proofs.Facing.{tells-nothing, tells-by}
 use Rattle.flonterri.proofs.looking.flonterri_covered_edge.Statement.{statement}
 use Rattle.flonterri.proofs.looking.flonterri_covered_edge.Tie as tie

@@ -1,9 +1,9 @@
 -- `flonterri_touching` meets its contract: refused for a length, or what the answer tells.
 use borrow.Author.Needs.{needs}
 use Rattle.lookups.specs.Spans.{touchingWords}
-use Rattle.flonterri.specs.Tells.{touchingTells}
+use Rattle.words.specs.Tells.{touchingTells}
+use Rattle.words.proofs.Lengths.{first-right, second-right}
 use Rattle.flonterri.specs.Face.{tellsTouching}
-use Rattle.flonterri.proofs.Lengths.{first-right, second-right}
 use Rattle.flonterri.proofs.Facing.{tells-nothing, tells-by}
 use Rattle.flonterri.proofs.looking.flonterri_touching.Statement.{statement}
 use Rattle.flonterri.proofs.looking.flonterri_touching.Tie as tie

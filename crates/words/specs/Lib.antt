@@ -1,0 +1,3 @@
+pub mod Words
+pub mod Lengths
+pub mod Tells
