@@ -37,13 +37,13 @@ use Rattle.file.proofs.Clocks.{read-clock}
 use Rattle.file.proofs.Accepted.{read-agrees}
 use Rattle.report.specs.declared.ClockLine.{ClockLine}
 use Rattle.report.specs.declared.ClockLine.the-variants as asked
-use Rattle.report.specs.declared.Reply.the-variants as reply
+use Rattle.wording.specs.declared.Reply.the-variants as reply
 use Rattle.frames.specs.Fields.{allOnes}
 use Rattle.report.specs.Clock.{askedBy, askedOn}
-use Rattle.report.specs.Text.{PercentRight, distanceText, refusedText, verdictText, textOf}
+use Rattle.wording.specs.Text.{PercentRight, distanceText, refusedText, verdictText, textOf}
 use Rattle.report.specs.Answer.{askedIn, replyOn, replyIn, answerIn, answer}
 use Rattle.file.proofs.Cuts.{unfed-line, unfed-has, unfed-behind}
-use Rattle.report.proofs.Figures.{figures}
+use Rattle.wording.proofs.Figures.{figures}
 use Rattle.laws.specs.Demand2.{Completes, Lacks, NeedsNone, disagree, over, early, disagreeing, unknown, MayNotAsk, MayNotAskWhole}
 use Rattle.laws.specs.Demand2 as demand
 use Rattle.laws.specs.Desk as desk

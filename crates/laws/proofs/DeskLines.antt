@@ -13,8 +13,8 @@ use Rattle.answers.specs.declared.Verdict.the-variants as verdict
 use Rattle.answers.specs.Shares.{percentOf, percentNumber}
 use Rattle.hex.specs.Ascii.{ascii}
 use Rattle.file.specs.Lines.{lineFeed}
-use Rattle.report.specs.Text.{decimalBy, decimal, shareText, verdictText, beginsWithDigit, readFrom}
-use Rattle.report.proofs.Figures.{figures}
+use Rattle.wording.specs.Text.{decimalBy, decimal, shareText, verdictText, beginsWithDigit, readFrom}
+use Rattle.wording.proofs.Figures.{figures}
 use Rattle.laws.specs.Desk.{completeLine, lackingLine, byDistance, refusedLine}
 
 -- ---- two numbers, each in front of some bytes that are no digits

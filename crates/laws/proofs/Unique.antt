@@ -76,6 +76,7 @@ entries =
       feed = lending (λ κs a e f. same);
       settled = equation;
       finish = lending (λ κs a e f. same);
+      put-line = lending (λ κs a e f. same);
       desk-begins = equation;
       desk-feed = lending (λ κs a e f. same);
       desk-settled = equation;

@@ -25,7 +25,7 @@ use Rattle.hex.specs.Ascii.{ascii}
 use Rattle.file.specs.Lines.{lineFeed}
 use Rattle.file.specs.Judging.{readAnswer, readTable}
 use Rattle.frames.specs.Fields.{allOnes}
-use Rattle.report.specs.Text.{decimal}
+use Rattle.wording.specs.Text.{decimal}
 use Rattle.report.specs.Answer.{tableLength, answer}
 use Rattle.laws.specs.Demand2.{Completes, Lacks, NeedsNone}
 

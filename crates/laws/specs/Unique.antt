@@ -16,6 +16,7 @@ use Rattle.answers.proofs as answers
 use Rattle.lookups.proofs as lookups
 use Rattle.file.proofs as file
 use Rattle.writing.proofs as writing
+use Rattle.wording.proofs as wording
 use Rattle.report.proofs as report
 use Rattle.words.proofs as words
 use Rattle.flonterri.proofs as c
@@ -152,6 +153,8 @@ pub record Entries : Type 0 where
   -- writing
   pub write : Lending writing.write.Reads.Asked writing.write.Reads.Learnt out
   pub write-number : Entry writing.WriteAnswer.number.Reads.Asked writing.WriteAnswer.number.Reads.Learnt
+  -- wording
+  pub put-line : Lending wording.put_line.Reads.Asked wording.put_line.Reads.Learnt first
   -- report
   pub desk-begins : Entry report.begin.Reads.Asked report.begin.Reads.Learnt
   pub desk-feed : Lending report.feed.Reads.Asked report.feed.Reads.Learnt table

@@ -1,9 +1,4 @@
 -- Laws of the report that belong to no one function.
-pub mod Placed
-pub mod Decimals
-pub mod Worded
-pub mod Shares
-pub mod Figures
 pub mod Shown
 pub mod Clocks
 pub mod Desks

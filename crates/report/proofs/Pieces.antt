@@ -13,14 +13,14 @@ use Rattle.file.specs.Judging.{readAnswer, readTable}
 use Rattle.file.specs.Feeding.{begunReader, fedReader, fedTable, readerAfter, tableAfter}
 use Rattle.file.proofs.SoFar.{goes-on}
 use Rattle.file.proofs.Pieces.{fed-begun-reader, fed-begun-table, fed-on-reader, fed-on-table, fed-finish-answer, fed-finish-table}
+use Rattle.wording.specs.declared.Reply.{Reply}
+use Rattle.wording.specs.Text.{textOf, over}
 use Rattle.report.specs.declared.ClockLine.{ClockLine}
 use Rattle.report.specs.declared.ClockLine.the-variants.{Unended, At, Whole, Refused}
 use Rattle.report.specs.declared.Desk.{Desk}
-use Rattle.report.specs.declared.Reply.{Reply}
 use Rattle.report.specs.Clock.{askedOn}
-use Rattle.report.specs.Text.{textOf}
 use Rattle.report.specs.Answer.{askedIn, fileRead, replyOn, replyIn, tableIn, answerIn, tableLength}
-use Rattle.report.specs.Feeding.{DeskAndTable, over, withMore, withEnd, begunDesk, readOn, lineOn, fed, replyBy, tableBy, fedAll, afterAll, AnyPieces}
+use Rattle.report.specs.Feeding.{DeskAndTable, withMore, withEnd, begunDesk, readOn, lineOn, fed, replyBy, tableBy, fedAll, afterAll, AnyPieces}
 use Rattle.report.proofs.Clocks.{first-asks, asks-some}
 use Rattle.file.proofs.Cuts.{unfed-line, unfed-has, unfed-behind, fed-line, fed-has, fed-behind}
 use Rattle.report.proofs.Lent.{same-reply}

@@ -18,12 +18,12 @@ use Rattle.file.specs.Feeding.{begunReader, readerAfter}
 use Rattle.file.specs.Settled.{readerSettled}
 use Rattle.file.proofs.Cuts.{unfed-line, fed-line, fed-has, fed-behind}
 use Rattle.file.proofs.Settling.{settled-file}
+use Rattle.wording.specs.declared.Reply.the-variants as reply
+use Rattle.wording.specs.Text.{textOf}
 use Rattle.report.specs.declared.ClockLine.{ClockLine}
 use Rattle.report.specs.declared.ClockLine.the-variants.{Unended, At, Whole, Refused}
 use Rattle.report.specs.declared.Desk.{Desk}
-use Rattle.report.specs.declared.Reply.the-variants as reply
 use Rattle.report.specs.Clock.{askedBy, askedOn}
-use Rattle.report.specs.Text.{textOf}
 use Rattle.report.specs.Answer.{askedIn, fileRead, replyOn, replyIn, tableLength}
 use Rattle.report.specs.Feeding.{DeskAndTable, afterAll}
 use Rattle.report.specs.Settled.{settledBy, settled, AnyMore}

@@ -43,11 +43,11 @@ use Rattle.frames.specs.Fields.{fieldValues}
 use Rattle.frames.specs.Frames.{frameAs, frameOf}
 use Rattle.hex.specs.Ascii.{ascii}
 use Rattle.frames.specs.Worked.{fieldsB}
+use Rattle.wording.specs.Text.{decimalBy, decimal, distanceText, shareText, refusedText, verdictText, textOf}
 use Rattle.report.specs.declared.ClockLine.{ClockLine}
 use Rattle.report.specs.declared.ClockLine.the-variants.{At, Whole}
 use Rattle.report.specs.Clock.{askedOn}
 use Rattle.report.specs.Answer.{askedIn, replyOn, replyIn, tableLength, answer}
-use Rattle.report.specs.Text.{decimalBy, decimal, distanceText, shareText, refusedText, verdictText, textOf}
 use Rattle.report.specs.Worked.{headLine, sLine, fileB, fileGap, Lines}
 
 -- ---- what is refused

@@ -14,16 +14,14 @@ use Rattle.answers.specs.declared.Verdict.{Verdict}
 use Rattle.answers.specs.Judgement.{verdictAt, verdictWhole}
 use Rattle.file.specs.declared.ReadAnswer.{ReadAnswer}
 use Rattle.file.specs.Feeding.{finishAnswer, finishTable}
+use Rattle.wording.specs.declared.Reply.{Reply}
+use Rattle.wording.specs.declared.Reply.the-variants.{Judged, Refused}
+use Rattle.wording.specs.Text.{textOf, over}
 use Rattle.report.specs.declared.ClockLine.{ClockLine}
 use Rattle.report.specs.declared.ClockLine.the-variants as asked
 use Rattle.report.specs.declared.Desk.{Desk}
-use Rattle.report.specs.declared.Reply.{Reply}
-use Rattle.report.specs.declared.Reply.the-variants.{Judged, Refused}
-use Rattle.report.specs.Placing.{Put}
-use Rattle.report.specs.Text.{textOf}
 use Rattle.report.specs.Answer.{fileRead, replyRead, replyOn}
-use Rattle.report.specs.Feeding.{over, replyAt, replyWhole, replyBy, tableBy}
-use Rattle.report.proofs.Placed.{front-count, front-bytes}
+use Rattle.report.specs.Feeding.{replyAt, replyWhole, replyBy, tableBy}
 
 -- ---- what was read
 
@@ -90,12 +88,12 @@ module _ (d : Desk) (ws : List ℕ) where
 
 -- ---- the line
 
-module _ (r s : Reply) (e : r ≡ s) (out after : List ℕ) (n : ℕ) (p : Put out 0 (textOf r) after n) where
-  pub told-count : n ≡ length (textOf s)
-  told-count = front-count out (textOf r) after n p ∙ ap (λ (x : Reply). length (textOf x)) e
+module _ (r s : Reply) (e : r ≡ s) where
+  pub told-count : (n : ℕ) → n ≡ length (textOf r) → n ≡ length (textOf s)
+  told-count n k = k ∙ ap (λ (x : Reply). length (textOf x)) e
 
-  pub told-bytes : after ≡ over (textOf s) out
-  told-bytes = front-bytes out (textOf r) after n p ∙ ap (λ (x : Reply). over (textOf x) out) e
+  pub told-bytes : (out after : List ℕ) → after ≡ over (textOf r) out → after ≡ over (textOf s) out
+  told-bytes out after k = k ∙ ap (λ (x : Reply). over (textOf x) out) e
 
 -- what was told is there
 module _ (text out after : List ℕ) (n : ℕ) (e : n ≡ length text) (f : after ≡ over text out) where

@@ -6,12 +6,12 @@ use Prim.Native.Nat.{ℕ}
 use native.Mathlib.Omega.{arith}
 use lib.ListN.{length, take, drop}
 use lib.Seq.{take-at}
+use Rattle.wording.specs.Text.{textOf, over}
 use Rattle.report.specs.declared.Desk.{Desk}
 use Rattle.report.specs.declared.Stopped.the-variants.{Ended, Settled, Failed}
 use Rattle.report.specs.declared.Fed.{Fed}
-use Rattle.report.specs.Text.{textOf}
 use Rattle.report.specs.Answer.{tableLength, answer}
-use Rattle.report.specs.Feeding.{DeskAndTable, over, begunDesk, fed, replyBy, fedAll}
+use Rattle.report.specs.Feeding.{DeskAndTable, begunDesk, fed, replyBy, fedAll}
 use Rattle.report.specs.Settled.{settled}
 use Rattle.report.specs.Running.{Brought, Reads, Tells, Answered}
 use Rattle.report.proofs.Told.{told-within}

@@ -14,12 +14,12 @@ use Rattle.answers.specs.Judgement.{verdictAt, verdictWhole}
 use Rattle.file.specs.declared.ReadAnswer.{ReadAnswer}
 use Rattle.file.specs.Lines.{hasFeed, firstLine, behindFirst}
 use Rattle.file.specs.Judging.{readAnswer, readTable}
+use Rattle.wording.specs.declared.Reply.{Reply}
+use Rattle.wording.specs.declared.Reply.the-variants.{Judged, Refused}
+use Rattle.wording.specs.Text.{textOf}
 use Rattle.report.specs.declared.ClockLine.{ClockLine}
 use Rattle.report.specs.declared.ClockLine.the-variants as asked
-use Rattle.report.specs.declared.Reply.{Reply}
-use Rattle.report.specs.declared.Reply.the-variants.{Judged, Refused}
 use Rattle.report.specs.Clock.{askedOn}
-use Rattle.report.specs.Text.{textOf}
 
 -- what an input asks: nothing yet where its clock line is not ended
 unfoldable pub askedIn : List ℕ → ClockLine

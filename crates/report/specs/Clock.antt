@@ -1,6 +1,6 @@
 -- The clock line is one frame of kind 04, and what it holds is asked: a clock of all ones is the whole period, any other is a clock, refused with
 -- 10 where it is over its limit. A line that is no such frame is refused with 16. Paper: The file (the program); Refusal numbers, 10 and 16.
-use Prim.Native.Nat.{ℕ, _-_}
+use Prim.Native.Nat.{ℕ}
 use mathlib.Core.Bool.{cond}
 use mathlib.Core.List.{List}
 use lib.Dec.{eqb}

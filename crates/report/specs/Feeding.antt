@@ -5,28 +5,24 @@
 use Prim.Native.Nat.{ℕ}
 use mathlib.Core.Path.{_≡_}
 use mathlib.Core.Bool.{cond}
-use mathlib.Core.List.{List, [], _∷_, _++_, flatten as allBytes}
-use lib.ListN.{length, drop}
+use mathlib.Core.List.{List, [], _∷_, flatten as allBytes}
+use lib.ListN.{length}
 use Rattle.units.specs.declared.Millis.{Millis}
 use Rattle.file.specs.Lines.{hasFeed, firstLine, behindFirst}
 use Rattle.file.specs.SoFar.{soFar, firstBytes, goesOn}
 use Rattle.file.specs.Feeding.{begunReader, fedReader, fedTable, finishAnswer, finishTable}
+use Rattle.wording.specs.declared.Reply.{Reply}
+use Rattle.wording.specs.Text.{textOf}
 use Rattle.report.specs.declared.ClockLine.{ClockLine}
 use Rattle.report.specs.declared.ClockLine.the-variants.{Unended, At, Whole, Refused}
 use Rattle.report.specs.declared.Desk.{Desk}
-use Rattle.report.specs.declared.Reply.{Reply}
 use Rattle.report.specs.Clock.{askedOn}
-use Rattle.report.specs.Text.{textOf}
 use Rattle.report.specs.Answer.{fileRead, replyOn, tableLength, tableIn, answer}
 
 -- a desk and the words of its table
 pub record DeskAndTable : Type 0 where
   pub desk : Desk
   pub words : List ℕ
-
--- a text over the front of some bytes, the rest as it came
-abbrev pub over : List ℕ → List ℕ → List ℕ
-over text bytes = text ++ drop (length text) bytes
 
 -- ---- the pieces
 

@@ -1,8 +1,6 @@
-pub mod Text
 pub mod Clock
 pub mod Answer
 pub mod Feeding
 pub mod Settled
 pub mod Running
-pub mod Placing
 pub mod Worked

@@ -1,14 +1,12 @@
 // The program's work, from the bytes of its input to the bytes of its answer: the clock line, the file,
-// the verdict, and the one line that tells it.
+// the verdict, and the one line that tells it, whose text is that of `wording`.
 use agreement::Refusal;
-use answers::Verdict;
 use units::Millis;
 
 mod asking;
 mod feeding;
 mod replying;
 mod running;
-mod wording;
 
 pub use feeding::begin;
 pub use feeding::feed;
@@ -24,12 +22,6 @@ pub enum ClockLine {
     At(Millis),
     Whole,
     Refused(Refusal),
-}
-
-// What is told: a verdict, or why the clock line or a line of the file was refused, and which.
-pub enum Reply {
-    Judged(Verdict),
-    Refused(Refusal, u64),
 }
 
 // How far the input is read: what its clock line asks, that line while it is not ended, and the reader

@@ -2,20 +2,19 @@
 ghost use mathlib.Core.Path.{_≡_};
 ghost use lib.ListN.{length};
 ghost use Rattle.file.specs.Feeding.{finishTable};
-ghost use Rattle.report.specs.Text.{textOf};
+ghost use Rattle.wording.specs.Text.{textOf, over};
 ghost use Rattle.report.specs.Answer.{replyRead, tableIn, answerIn};
-ghost use Rattle.report.specs.Feeding.{over, replyAt, replyWhole, replyBy, tableBy};
+ghost use Rattle.report.specs.Feeding.{replyAt, replyWhole, replyBy, tableBy};
 use crate::ClockLine;
 use crate::Desk;
-use crate::Reply;
 use crate::feeding;
-use crate::wording;
 use agreement::Refusal;
 use answers::Verdict;
 use file::ReadAnswer;
 use keeping::Outcome;
 use units::Millis;
 use units::WideMillis;
+use wording::Reply;
 
 // What was read is judged, unless it was refused.
 fn reply_read(read: ReadAnswer, verdict: Verdict) -> Reply
