@@ -1,5 +1,5 @@
 -- An append and then a trim: the refusals before the append, what an accepted append leaves to the trim, and what the two come to.
-use mathlib.Core.Path.{_≡_, refl, sym, ap, ap₂, subst⁻¹, _∙_}
+use mathlib.Core.Path.{_≡_, refl, sym, ap, ap₂, _∙_}
 use mathlib.Core.Bool.{Bool, true, false, cond, not}
 use mathlib.Core.List.{List}
 use Prim.Native.Nat.{ℕ, _≤_}
@@ -11,7 +11,7 @@ use Rattle.units.specs.declared.MillisMade.{MillisMade}
 use Rattle.units.specs.declared.MillisMade.the-variants as millis
 use Rattle.units.specs.declared.WideMillis.{WideMillis}
 use Rattle.units.specs.declared.standing.Standing.{Standing}
-use Rattle.units.specs.Limits.{largestSpan, largestMillis, millisMade, clockHeld}
+use Rattle.units.specs.Limits.{largestSpan, millisMade, clockHeld}
 use Rattle.agreement.specs.declared.Record.{Record}
 use Rattle.agreement.specs.declared.refusal.Refusal.the-variants.{Disagreement, ClockLimit}
 use Rattle.agreement.specs.Agreement.{agrees}

@@ -1,5 +1,5 @@
-// One call for a segment: an append by stamp, and then a trim. Agreement is tested once: an accepted
-// append keeps it.
+// One call for a segment: an append by stamp, and then a trim. Agreement is tested once: an append,
+// accepted or refused, leaves what agrees.
 ghost use mathlib.Core.Path.{_≡_};
 ghost use mathlib.Core.Bool.{true};
 ghost use Prim.Native.Nat.{_≤_};
