@@ -44,6 +44,14 @@ fn changes(name: u8) -> bool {
     }
 }
 
+// With a capital, the record is lent to the call.
+fn lends(name: u8) -> bool {
+    match name {
+        b'A' | b'S' | b'T' | b'P' => true,
+        _ => false,
+    }
+}
+
 fn change(name: u8, rec: Record, table: &mut [u64], s: [u64; PLACES]) -> Changed {
     if name == b'o' {
         return timeline::open(head(s), WideTick(s[8]), table);
@@ -66,14 +74,71 @@ fn change(name: u8, rec: Record, table: &mut [u64], s: [u64; PLACES]) -> Changed
     }
 }
 
-fn call(name: u8, rec: Record, table: &mut [u64], s: [u64; PLACES]) -> Record {
-    if !changes(name) {
-        look(name, rec, table, s[1], s[2]);
-        return rec;
+fn change_lent(name: u8, rec: Record, table: &mut [u64], s: [u64; PLACES]) -> Changed {
+    let at = s[1];
+    let duration = low(s[2]);
+    let count = low(s[3]);
+    match name {
+        b'A' => held::append(rec, table, WideTick(at), duration, count),
+        b'S' => held::append_stamp(rec, table, Stamp(low(at)), duration, count),
+        b'P' => held::append_trim(
+            rec,
+            table,
+            Stamp(low(at)),
+            duration,
+            count,
+            WideMillis(s[4]),
+        ),
+        _ => held::trim(rec, table, WideMillis(at)),
     }
-    let changed = change(name, rec, table, s);
-    show(changed, table);
-    changed.rec
+}
+
+// Two calls, and so two outcomes, both shown with what the second left.
+fn follow(before: Record, table: &mut [u64], s: [u64; PLACES]) -> Record {
+    let both = held::follow(
+        before,
+        table,
+        Stamp(low(s[1])),
+        low(s[2]),
+        low(s[3]),
+        WideMillis(s[4]),
+    );
+    let appended = both.appended;
+    let trimmed = both.trimmed;
+    let rec = both.rec;
+    show(
+        Changed {
+            outcome: appended,
+            rec,
+        },
+        table,
+    );
+    show(
+        Changed {
+            outcome: trimmed,
+            rec,
+        },
+        table,
+    );
+    rec
+}
+
+fn call(name: u8, rec: Record, table: &mut [u64], s: [u64; PLACES]) -> Record {
+    if name == b'f' {
+        return follow(rec, table, s);
+    }
+    if lends(name) {
+        let changed = change_lent(name, rec, table, s);
+        show(changed, table);
+        return changed.rec;
+    }
+    if changes(name) {
+        let changed = change(name, rec, table, s);
+        show(changed, table);
+        return changed.rec;
+    }
+    look(name, rec, table, s[1], s[2]);
+    rec
 }
 
 // A comment begins with '#'.

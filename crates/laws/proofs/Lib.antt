@@ -4,6 +4,7 @@ pub mod Calling
 pub mod Leaving
 pub mod Histories
 pub mod Pairs
+pub mod Lent
 pub mod Listed
 pub mod Spent
 pub mod Division

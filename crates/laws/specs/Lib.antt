@@ -9,6 +9,7 @@ pub mod Edge
 pub mod History
 pub mod Lines
 pub mod Pairs
+pub mod Lent
 pub mod Reading
 pub mod Refusals
 pub mod Spent

@@ -12,6 +12,7 @@ use Rattle.runs.proofs as runs
 use Rattle.agreement.proofs as agreement
 use Rattle.keeping.proofs as keeping
 use Rattle.timeline.proofs as timeline
+use Rattle.held.proofs as held
 use Rattle.answers.proofs as answers
 use Rattle.lookups.proofs as lookups
 use Rattle.file.proofs as file
@@ -118,6 +119,12 @@ pub record Entries : Type 0 where
   pub append-trim : Lending timeline.append_trim.Reads.Asked timeline.append_trim.Reads.Learnt table
   pub trim : Lending timeline.trim.Reads.Asked timeline.trim.Reads.Learnt table
   pub zero-record : Entry timeline.zero_record.Reads.Asked timeline.zero_record.Reads.Learnt
+  -- held
+  pub held-append : Lending held.append.Reads.Asked held.append.Reads.Learnt table
+  pub held-append-stamp : Lending held.append_stamp.Reads.Asked held.append_stamp.Reads.Learnt table
+  pub held-append-trim : Lending held.append_trim.Reads.Asked held.append_trim.Reads.Learnt table
+  pub held-trim : Lending held.trim.Reads.Asked held.trim.Reads.Learnt table
+  pub follow : Lending held.follow.Reads.Asked held.follow.Reads.Learnt table
   -- answers
   pub verdict : Entry answers.verdicts.verdict.Reads.Asked answers.verdicts.verdict.Reads.Learnt
   pub verdict-whole : Entry answers.verdicts.verdict_whole.Reads.Asked answers.verdicts.verdict_whole.Reads.Learnt

@@ -27,7 +27,8 @@ fn numbers(step: &str) -> Numbers {
 fn change(name: &str, record: &mut [u64], table: &mut [u64], numbers: Numbers) -> Option<String> {
     let [a, b, c, d, e, f, g, h] = numbers;
     let mut out = [0];
-    let number = match name {
+    // with a capital, our record is lent to the call; here it is lent in any case
+    let number = match name.to_lowercase().as_str() {
         "open" => face::open(record, table, a as u32, b, c, d, e, f as u32, g, h),
         "append" => face::append(record, table, a, b as u32, c as u32, &mut out),
         "stamp" => face::append_stamp(record, table, a as u32, b as u32, c as u32, &mut out),
@@ -75,15 +76,37 @@ fn look(name: &str, record: &[u64], table: &[u64], numbers: Numbers) -> String {
     }
 }
 
+/// The row of a call that changes.
+fn changed(outcome: &str, record: &[u64], table: &[u64]) -> String {
+    format!(" {} |{} |{}", outcome, words(record), words(table))
+}
+
+/// Two calls, and so two outcomes, both shown with what the second left.
+fn follow(record: &mut [u64], table: &mut [u64], numbers: Numbers) -> String {
+    let clock = Numbers::from([numbers[3], 0, 0, 0, 0, 0, 0, 0]);
+    let appended = change("stamp", record, table, numbers).expect("an outcome");
+    let trimmed = change("trim", record, table, clock).expect("an outcome");
+    let rows = [appended, trimmed];
+    let rows: Vec<String> = rows
+        .iter()
+        .map(|outcome| changed(outcome, record, table))
+        .collect();
+    rows.join("\n")
+}
+
 fn run(steps: &str, length: usize) {
     let mut table = vec![9; length];
     let mut record = [0; RECORD_WORDS];
     for step in steps.lines().filter(|step| !step.starts_with('#')) {
         let name = step.split(' ').next().expect("a name");
         let numbers = numbers(step);
-        let answer = match change(name, &mut record, &mut table, numbers) {
-            Some(outcome) => format!(" {} |{} |{}", outcome, words(&record), words(&table)),
-            None => look(name, &record, &table, numbers),
+        let answer = if name == "follow" {
+            follow(&mut record, &mut table, numbers)
+        } else {
+            match change(name, &mut record, &mut table, numbers) {
+                Some(outcome) => changed(&outcome, &record, &table),
+                None => look(name, &record, &table, numbers),
+            }
         };
         println!("{}:{}", step, answer);
     }
