@@ -11,6 +11,10 @@
  * - what a call may change (a pointer without const) overlaps nothing else that the call is given;
  * - while a call runs no other thread touches what it may change, or writes to what it reads.
  *
+ * The calls that change a timeline change the words of its record in place: go on with those words. A copy
+ * from before is refused with 2 only where the words of the table do not fit it any more; else it is taken
+ * for the record, and a clock or some numbers are forgotten.
+ *
  * The limits. A timescale is 1 to 10,000,000 ticks a second. A tick is at most 2^52 - 1. Period start,
  * duration, window depth, update period and clock are whole milliseconds, at most 100,000,000,000. A
  * duration of 0 means that the period end is unknown, a depth of 0 that no window depth is given. A grain

@@ -143,9 +143,9 @@ module _ {M : Type 1} (𝓤 : URA M) (H : Heap 𝓤) (A : Atoms 𝓤) (W : Given
         -- the call over the record that is lent
         move ! (0 ∷ 2 ∷ 1 ∷ []) $ use3 W (raw (Callee 𝓤 H A at-mem run .pre (to-callee ν held-at γ))) (goes-in ν held-at γ) $
         calls-at ! fm (Callee 𝓤 H A at-mem run) known (to-callee ν held-at γ) (and-then ! (load ! (from ! (stop !)) (look ! 8 refl)) (and-then ! (load ! (from ! (stop !)) (look ! 4 refl)) (and-then ! (load ! (from ! (stop !)) (look ! 19 refl)) (and-then ! (load ! (from ! (stop !)) (look ! 17 refl)) (and-then ! (load ! (from ! (stop !)) (look ! 15 refl)) (and-then ! (load ! (from ! (stop !)) (look ! 13 refl)) (no-more !))))))) (λ w.
-        use1 W (later (some (λ (x : Outcome). ((‵ (flft (ν ∷ []) fullShare) ⊛ (‵ (flft κ q) ⊛ ‵ ftrue)) ⊛ ‵ (O.the-row .own x (w ∷ []))) ⊛ raw (ensured 𝓤 H A callee.ended (callee.clauses 𝓤 H A at-mem run) (ν ∷ [], (κ, tt)) (args held-at γ) tt x)))) (id⊢ 𝓤 _) $ await ! tt $ pick ! (λ x.
-        split ! $ move ! (1 ∷ []) $ use1 W (some (λ (zs : Record × (List ℕ × (Unit {0} × (Unit {0} × (Unit {0} × (Unit {0} × (Unit {0}))))))). ‵ (lasts callee.ended (ν ∷ [], (κ, tt)) (args held-at γ) zs) ⊛ (raw (fact 𝓤 (x ≡ Answer h ys stamp duration count clock .outcome)) ⊛ (raw (fact 𝓤 (zs .0 ≡ Answer h ys stamp duration count clock .rec)) ⊛ (raw (fact 𝓤 (zs .1 .0 ≡ Table h ys stamp duration count clock))))))) (id⊢ 𝓤 _) $ pick ! (λ zs.
-        split ! $ move ! (1 ∷ []) $ heard3 ! (x ≡ Answer h ys stamp duration count clock .outcome) (zs .0 ≡ Answer h ys stamp duration count clock .rec) (zs .1 .0 ≡ Table h ys stamp duration count clock) (λ e f g. fsplit ! $ move ! (1 ∷ []) $ fsplit ! $ fsplit ! $ move ! (1 ∷ []) $ feqL ! (λ l. move ! (1 ∷ []) $ drop ! $
+        use1 W (later (some (λ (x : Outcome). ((‵ (flft (ν ∷ []) fullShare) ⊛ (‵ (flft κ q) ⊛ ‵ ftrue)) ⊛ ‵ (O.the-row .own x (w ∷ []))) ⊛ raw (ensured 𝓤 H A callee.ended (callee.clauses 𝓤 H A at-mem run) (ν ∷ [], (κ, tt)) (args held-at γ) tt x)))) (id⊢ 𝓤 _) $ await ! tt $ pick ! (λ x. split ! $
+        move ! (1 ∷ []) $ use1 W (some (λ (zs : Record × (List ℕ × (Unit {0} × (Unit {0} × (Unit {0} × (Unit {0} × (Unit {0}))))))). ‵ (lasts callee.ended (ν ∷ [], (κ, tt)) (args held-at γ) zs) ⊛ (raw (fact 𝓤 (x ≡ Answer h ys stamp duration count clock .outcome)) ⊛ (raw (fact 𝓤 (zs .0 ≡ Answer h ys stamp duration count clock .rec)) ⊛ (raw (fact 𝓤 (zs .1 .0 ≡ Table h ys stamp duration count clock))))))) (id⊢ 𝓤 _) $ pick ! (λ zs. split ! $
+        move ! (1 ∷ []) $ heard3 ! (x ≡ Answer h ys stamp duration count clock .outcome) (zs .0 ≡ Answer h ys stamp duration count clock .rec) (zs .1 .0 ≡ Table h ys stamp duration count clock) (λ e f g. fsplit ! $ move ! (1 ∷ []) $ fsplit ! $ fsplit ! $ move ! (1 ∷ []) $ feqL ! (λ l. move ! (1 ∷ []) $ drop ! $
         move ! (2 ∷ []) $ split ! $ move ! (1 ∷ []) $ peeks ! O.the-row (Is O.the-row) (shows 𝓤 H A O.the-row) x (w ∷ []) (λ is. drop ! $
         land ! (from ! (stop !)) (init ! 12 refl (EL.lawful O.the-type O′.the-laws 𝓤 H A W tt .typed x _ is .0)) $ rewrite ! 12 (λ (u : Val). ‵ (fat fullShare O′.mir outcome-at 0 u)) (ap only (EL.tells O.the-type O′.the-laws x (w ∷ []) is)) refl $
         -- the lifetime ends, and the record is back as the call left it
