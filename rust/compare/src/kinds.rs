@@ -117,11 +117,17 @@ const WINDOWS: &[&str] = &[
     "clock plus update over the limit",
 ];
 
+/// What can become of an older record: it is told by 2, or taken. Three of those that are taken are counted
+/// once more: the clock alone is lost; nothing is kept, and appends that were spent at once are lost; nothing
+/// is kept, and a clock with what it has dropped is lost.
+const OLDER: &[&str] = &["told", "taken", "clock lost", "spent lost", "emptied"];
+
 /// The ways in which calls can go besides their numbers.
-const WAYS: [(&str, &[&str]); 29] = [
+const WAYS: [(&str, &[&str]); 30] = [
     ("lengths", &["another record", "another out"]),
     ("damaged words", &["agree", "disagree"]),
     ("damaged update", &["agree", "disagree"]),
+    ("older record", OLDER),
     (
         "open update",
         &["0", "1 or more", "the limit", "over the limit", "all ones"],
@@ -213,7 +219,7 @@ pub fn meet_call(tally: &mut Tally, made: &Made) {
     let step = made.step;
     let number = made.answer.number;
     tally.meet(step.call.name(), &number.to_string());
-    meet_memory(tally, step, number);
+    meet_memory(tally, made);
     meet_asked(tally, step);
     if number == 0 {
         meet_accepted(tally, made);
@@ -314,18 +320,47 @@ fn meet_asked(tally: &mut Tally, step: &Step) {
     }
 }
 
-fn meet_memory(tally: &mut Tally, step: &Step, number: u32) {
+fn meet_memory(tally: &mut Tally, made: &Made) {
+    let (step, number) = (made.step, made.answer.number);
     if step.has_other_record() {
         tally.meet("lengths", "another record");
     } else if step.has_other_out() {
         tally.meet("lengths", "another out");
-    } else if !step.damage.is_empty() && !matches!(step.call, Call::Open(_) | Call::Read { .. }) {
+    } else if step.older {
+        meet_older(tally, made);
+    } else if !step.damage.is_empty() && !step.call.makes_record() {
         let item = if number == 2 { "disagree" } else { "agree" };
         tally.meet("damaged words", item);
-        let of_update = |damage: &Damage| damage.place == Place::Record(word::UPDATE_PERIOD);
-        if step.damage.iter().all(of_update) {
+        if changes_only(step, word::UPDATE_PERIOD) {
             tally.meet("damaged update", item);
         }
+    }
+}
+
+/// True where no other word of record and table is changed before the call.
+fn changes_only(step: &Step, at: usize) -> bool {
+    let is_there = |damage: &Damage| damage.place == Place::Record(at);
+    step.damage.iter().all(is_there)
+}
+
+/// Counts whether an older record is told, and what is lost where it is not.
+fn meet_older(tally: &mut Tally, made: &Made) {
+    if made.answer.number == 2 {
+        tally.meet("older record", "told");
+        return;
+    }
+    tally.meet("older record", "taken");
+    let present = before(made);
+    let older = State::of(&made.before.damaged(&made.step.damage));
+    let keeps_nothing = older.runs.is_empty() && older.accepted < present.accepted;
+    if keeps_nothing && older.greatest_clock == present.greatest_clock {
+        tally.meet("older record", "spent lost");
+    } else if keeps_nothing {
+        tally.meet("older record", "emptied");
+    } else if changes_only(made.step, word::GREATEST_CLOCK)
+        && older.greatest_clock < present.greatest_clock
+    {
+        tally.meet("older record", "clock lost");
     }
 }
 

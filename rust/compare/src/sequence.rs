@@ -36,16 +36,25 @@ impl Sequence {
     /// Makes every call through both sides, has each looked at, and stops at the first difference.
     pub fn run(&self, faces: &Faces, mut look: impl FnMut(&Made)) -> Result<(), Difference> {
         let mut before = Lent::anything(self.table_words);
+        // The records of this timeline before the calls that changed them, the opening's first.
+        let mut earlier = Vec::new();
         let mut made = Vec::new();
         for seed in &self.steps {
-            let step = steps::step(*seed, &before);
+            let step = steps::step(*seed, &before, &earlier);
+            let makes_record = step.call.makes_record();
             let after = compare_step(faces, &step, &before, &mut look);
             made.push(step);
-            before = after.map_err(|what| Difference {
+            let after = after.map_err(|what| Difference {
                 table_words: self.table_words,
                 made: made.clone(),
                 what,
             })?;
+            if makes_record {
+                earlier.clear();
+            } else if after.record != before.record {
+                earlier.push(before.record);
+            }
+            before = after;
         }
         Ok(())
     }
@@ -120,10 +129,15 @@ impl fmt::Display for Difference {
                 call => writeln!(formatter, "  {:?}", call)?,
             }
             if step.spoils_memory() || step.has_other_out() {
+                let record = if step.older {
+                    "an older record"
+                } else {
+                    "a record"
+                };
                 writeln!(
                     formatter,
-                    "    on a record of {} words, an out of {}, with {:?}",
-                    step.record_words, step.out_words, step.damage
+                    "    on {} of {} words, an out of {}, with {:?}",
+                    record, step.record_words, step.out_words, step.damage
                 )?;
             }
         }

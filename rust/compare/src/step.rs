@@ -97,6 +97,11 @@ impl Call {
             Call::Open(_) | Call::Trim { .. } => 0,
         }
     }
+
+    /// True where the call judges no record: it makes one.
+    pub fn makes_record(&self) -> bool {
+        matches!(self, Call::Open(_) | Call::Read { .. })
+    }
 }
 
 /// A place in the lent memory.
@@ -146,6 +151,17 @@ impl Lent {
         }
         lent
     }
+
+    /// The words to change so that an older record stands here, and the table as it is.
+    pub fn older(&self, record: &[u64]) -> Vec<Damage> {
+        (0..RECORD_WORDS)
+            .filter(|at| record[*at] != self.record[*at])
+            .map(|at| Damage {
+                place: Place::Record(at),
+                word: record[at],
+            })
+            .collect()
+    }
 }
 
 /// A call and how memory is lent to it.
@@ -155,6 +171,8 @@ pub struct Step {
     pub call: Call,
     /// Words changed before it.
     pub damage: Vec<Damage>,
+    /// True where these words are those of an older record.
+    pub older: bool,
     /// How many words of a record it is lent.
     pub record_words: usize,
     /// How many words of an `out` it is lent.
@@ -166,6 +184,7 @@ impl Step {
     pub fn of(call: Call) -> Self {
         Step {
             damage: Vec::new(),
+            older: false,
             record_words: RECORD_WORDS,
             out_words: call.out_words(),
             call,

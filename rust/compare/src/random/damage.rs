@@ -23,6 +23,22 @@ pub fn damage(generator: &mut Generator, lent: &Lent) -> Vec<Damage> {
     }
 }
 
+/// The words of an earlier record: the first, the last or any that is not the present one; none where
+/// there is none.
+pub fn older_record(generator: &mut Generator, lent: &Lent, earlier: &[Vec<u64>]) -> Vec<Damage> {
+    let others = earlier.iter().filter(|older| **older != lent.record);
+    let others: Vec<&Vec<u64>> = others.collect();
+    if others.is_empty() {
+        return Vec::new();
+    }
+    let at = match generator.below(3) {
+        0 => 0,
+        1 => others.len() - 1,
+        _ => generator.place(others.len()),
+    };
+    lent.older(others[at])
+}
+
 fn record(at: usize, word: u64) -> Damage {
     Damage {
         place: Place::Record(at),

@@ -17,8 +17,8 @@ const MOST_KEPT: u64 = 3_000;
 const HEAD_AND_END: usize = 99 + 11;
 const S_LINE: usize = 35;
 
-/// The step of a seed in this memory.
-pub fn step(seed: u64, lent: &Lent) -> Step {
+/// The step of a seed in this memory, behind these records of the same timeline.
+pub fn step(seed: u64, lent: &Lent, earlier: &[Vec<u64>]) -> Step {
     let mut generator = Generator::new(seed);
     let state = State::of(lent);
     let mut step = Step::of(call(&mut generator, &state));
@@ -31,6 +31,13 @@ pub fn step(seed: u64, lent: &Lent) -> Step {
         2..=6 => {
             let damage = damage::damage(&mut generator, lent);
             if is_light(&step.call, &State::of(&lent.damaged(&damage))) {
+                step.damage = damage;
+            }
+        }
+        7 | 8 if !step.call.makes_record() => {
+            let damage = damage::older_record(&mut generator, lent, earlier);
+            if is_light(&step.call, &State::of(&lent.damaged(&damage))) {
+                step.older = !damage.is_empty();
                 step.damage = damage;
             }
         }

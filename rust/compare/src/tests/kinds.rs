@@ -161,6 +161,70 @@ fn kinds_of_an_append_with_a_trim() {
     }
 }
 
+/// What a look with the record from before the last of some calls is counted as, in a window of ten seconds.
+fn counted_older(calls: &[Call]) -> String {
+    let opening = Opening {
+        depth: 10_000,
+        ..Opening::OPEN_ENDED
+    };
+    let (mut before, mut lent) = (Lent::anything(3), Lent::anything(3));
+    for call in [Call::Open(opening)].iter().chain(calls) {
+        let step = Step::of(call.clone());
+        before = lent;
+        lent = step.after(&before, &step.perform(&PLAIN, &before));
+    }
+    let look = Step {
+        damage: lent.older(&before.record),
+        older: true,
+        ..Step::of(Call::CoveredEdge)
+    };
+    let mut tally = Tally::default();
+    announce_calls(&mut tally);
+    let made = Made {
+        before: &lent,
+        answer: &look.perform(&PLAIN, &lent),
+        step: &look,
+    };
+    meet_call(&mut tally, &made);
+    tally.to_string()
+}
+
+#[test]
+fn kinds_of_an_older_record() {
+    let append = Call::Append {
+        start: 0,
+        duration: 4000,
+        count: 1,
+    };
+    let append_trim = Call::AppendTrim {
+        stamp: 0,
+        duration: 4000,
+        count: 1,
+        clock: 14_000,
+    };
+    let trim = |clock| Call::Trim { clock };
+    let (early, late) = (trim(13_999), trim(14_000));
+    for (calls, told, clock, spent, emptied) in [
+        (vec![append.clone()], 1, 0, 0, 0),
+        (vec![append.clone(), early], 0, 1, 0, 0),
+        (vec![late.clone(), append.clone()], 0, 0, 1, 0),
+        (vec![append_trim], 0, 0, 0, 1),
+        // The older record keeps something, and the table nothing any more.
+        (vec![append, late], 1, 0, 0, 0),
+    ] {
+        let line = format!(
+            "  told ({})  taken ({})  clock lost ({})  spent lost ({})  emptied ({})",
+            told,
+            1 - told,
+            clock,
+            spent,
+            emptied
+        );
+        let counted = counted_older(&calls);
+        assert!(counted.contains(&line), "{:?}\n{}", calls, counted);
+    }
+}
+
 #[test]
 fn what_is_met_or_not() {
     let mut tally = Tally::default();

@@ -297,6 +297,24 @@ fn a_trim_that_goes_by_the_clock_plus_the_update_period() {
     found(Face { trim, ..PLAIN }, "record word 8");
 }
 
+/// Only an older record keeps nothing over a table of two runs.
+#[test]
+fn a_trim_that_takes_the_record_of_the_opening() {
+    let trim = |record: &mut [u64], table: &mut [u64], clock: u64| {
+        let opened = record.get(word::ACCEPTED) == Some(&0) && record[word::TIMESCALE] != 0;
+        let used = table.len() >= 6 && table[..6].iter().skip(1).all(|word| *word != 0);
+        match (PLAIN.trim)(record, table, clock) {
+            2 if opened && used && record[word::RUNS_USED] == 0 => 0,
+            number => number,
+        }
+    };
+    let report = run(Face { trim, ..PLAIN }).expect_err("a planted fault");
+    let differ = "planted and plain differ in number: 0 and 2";
+    for said in ["    on an older record of 12 words", differ] {
+        assert!(report.contains(said), "{}", report);
+    }
+}
+
 #[test]
 fn a_verdict_that_always_says_complete() {
     let verdict = |record: &[u64], table: &[u64], clock, out: &mut [u64]| {
@@ -551,6 +569,30 @@ fn a_failing_sequence_is_shortened() {
     let short = failing.shortened(&faces);
     assert!(short.run(&faces, |_| ()).is_err());
     assert!(short.steps.len() <= 3, "{:?}", short);
+}
+
+#[test]
+fn an_older_record_is_one_of_the_same_timeline() {
+    let mut older = 0;
+    for case in 0..1_000 {
+        let mut earlier = Vec::new();
+        let sequence = Sequence::random(&mut Generator::of_case(7, case));
+        let run = sequence.run(&against_plain(PLAIN), |made| {
+            if made.step.older {
+                let passed = made.before.damaged(&made.step.damage);
+                assert!(earlier.contains(&passed.record), "{:?}", made.step);
+                assert_ne!(passed.record, made.before.record);
+                assert_eq!(passed.table, made.before.table);
+                older += 1;
+            }
+            earlier.push(made.before.record.clone());
+            if made.step.call.makes_record() {
+                earlier.clear();
+            }
+        });
+        assert!(run.is_ok());
+    }
+    assert!(older > 100, "{}", older);
 }
 
 #[test]
