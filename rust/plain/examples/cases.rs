@@ -83,7 +83,7 @@ fn changed(outcome: &str, record: &[u64], table: &[u64]) -> String {
 
 /// Two calls, and so two outcomes, both shown with what the second left.
 fn follow(record: &mut [u64], table: &mut [u64], numbers: Numbers) -> String {
-    let clock = Numbers::from([numbers[3], 0, 0, 0, 0, 0, 0, 0]);
+    let clock: Numbers = [numbers[3], 0, 0, 0, 0, 0, 0, 0];
     let appended = change("stamp", record, table, numbers).expect("an outcome");
     let trimmed = change("trim", record, table, clock).expect("an outcome");
     let rows = [appended, trimmed];
