@@ -90,6 +90,13 @@ answered s (byStamp x d n) = sym (outcome-beside (tested s (byStamp x d n)) (app
 answered s (trimAt m) = sym (outcome-beside (tested s (trimAt m)) (trimmed (s .rec) (s .words) (m .0)) (s .rec))
 answered s (pairAt x d n m) = sym (outcome-beside (tested s (pairAt x d n m)) (pairLeaves s x d n m .rec) (s .rec))
 
+-- a refused call leaves the state as it came
+pub refused-stays : (s : State) (c : Call) (why : Refusal) → outcomeOf s c ≡ Refused why → after s c ≡ s
+refused-stays s (byTick x d n) why e = append-refused s _ d n why (answered s (byTick x d n) ∙ e)
+refused-stays s (byStamp x d n) why e = append-refused s _ d n why (answered s (byStamp x d n) ∙ e)
+refused-stays s (trimAt m) why e = trim-refused s m why (answered s (trimAt m) ∙ e)
+refused-stays s (pairAt x d n m) why e = pair-refused s x d n m why (answered s (pairAt x d n m) ∙ e)
+
 -- ---- the references of accepted appends
 
 -- a trim, however it ends, leaves the next tick

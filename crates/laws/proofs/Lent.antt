@@ -4,7 +4,6 @@ use mathlib.Core.Path.{_≡_, refl, sym, ap, ap₂, subst, subst⁻¹, _∙_}
 use mathlib.Core.Bool.{true}
 use mathlib.Core.List.{List, [], _∷_}
 use lib.ListN.{length}
-use lib.Seq.{drop-nil}
 use Rattle.units.specs.declared.Tick.{Tick}
 use Rattle.window.specs.declared.Head.{Head}
 use Rattle.window.specs.Place.{place, moment, periodEnd}
@@ -13,10 +12,9 @@ use Rattle.runs.specs.Words.{runsOf, wordsOf, repeated, referencesOf}
 use Rattle.runs.specs.Shape.{runsShaped, zeros}
 use Rattle.runs.specs.Ends.{lastEnd}
 use Rattle.runs.specs.Encoding.{canonical, push, encode, tableOf}
-use Rattle.agreement.specs.declared.refusal.Refusal.{Refusal}
 use Rattle.agreement.specs.Agreement.{every, agrees}
 use Rattle.keeping.specs.declared.Outcome.{Outcome}
-use Rattle.keeping.specs.declared.Outcome.the-variants.{Accepted, Refused}
+use Rattle.keeping.specs.declared.Outcome.the-variants.{Accepted}
 use Rattle.keeping.specs.Keeping.{unspent, outcomeNumber, changedBy, wordsBy}
 use Rattle.keeping.specs.Append.{roomOutcome, fitOutcome}
 use Rattle.timeline.specs.Opening.{openOutcome}
@@ -26,16 +24,9 @@ use Rattle.laws.specs.Calls.{Call, byTick, byStamp, trimAt, pairAt, Plai
 use Rattle.laws.specs.History.{Holds, keptBy}
 use Rattle.laws.specs.Refusals.{lowest}
 use Rattle.laws.specs.Lent.{Lent, rowsOf, LentCalls, none, more, outcomesOf, LentRight}
-use Rattle.laws.proofs.Calling.{append-refused, trim-refused, pair-refused, answered}
+use Rattle.laws.proofs.Calling.{refused-stays}
 use Rattle.laws.proofs.Histories.{demand-3}
 use Rattle.laws.proofs.Refusals.{refusals}
-
--- a refused call leaves the state as it came
-stays : (s : State) (c : Call) (why : Refusal) → outcomeOf s c ≡ Refused why → after s c ≡ s
-stays s (byTick t d n) why e = append-refused s _ d n why (answered s (byTick t d n) ∙ e)
-stays s (byStamp t d n) why e = append-refused s _ d n why (answered s (byStamp t d n) ∙ e)
-stays s (trimAt c) why e = trim-refused s c why (answered s (trimAt c) ∙ e)
-stays s (pairAt t d n c) why e = pair-refused s t d n c why (answered s (pairAt t d n c) ∙ e)
 
 number : (s : State) (c : Call) → Plain (c ∷ []) → outcomeNumber (outcomeOf s c) ≡ lowest (rowsOf s c)
 number s (byTick t d n) plain = refusals .append (s .rec) (s .words) t d n (plain .0)
@@ -57,16 +48,17 @@ answers s [] [] left none = refl
 answers s (c ∷ cs) (o ∷ os) left (more {between = between} l ls) =
     ap₂ _∷_ (l .outcome) (answers between cs os left ls ∙ ap (λ (x : State). outcomesOf x cs) (left-is s c o between l))
 
--- an opening keeps nothing, so where nothing is kept the words are its own
+-- where nothing is kept every word is 0, so two such states have the same words
 module _ (h : Head) (t : Tick) (came : List ℕ) (ok : openOutcome h t ≡ Accepted) where
-  emptied : (cs : List Call) → Plain cs → keptBy (afterCalls (opening h t came) cs) ≡ [] → afterCalls (opening h t came) cs .words ≡ canonical (length came) []
+  abbrev left-by : List Call → State
+  left-by cs = afterCalls (opening h t came) cs
+
+  emptied : (cs : List Call) → Plain cs → keptBy (left-by cs) ≡ [] → left-by cs .words ≡ canonical (length came) []
   emptied cs plain e = demand-3 .holds h t came ok cs plain .settled .table ∙ ap (canonical (length came)) e
 
-  unseen-empty : (cs : List Call) → Plain cs → keptBy (afterCalls (opening h t came) cs) ≡ [] → agrees (opening h t came .rec) (afterCalls (opening h t came) cs .words) ≡ true
-  unfolding afterCalls allAccepted
-  unseen-empty cs plain e =
-      subst (λ (ws : List ℕ). agrees (opening h t came .rec) ws ≡ true) (emptied [] tt (demand-3 .holds h t came ok [] tt .numbered ∙ drop-nil (opening h t came .rec .dropped)) ∙ sym (emptied cs plain e))
-      (demand-3 .holds h t came ok [] tt .settled .agreed)
+  unseen-empty : (cs ds : List Call) → Plain cs → Plain ds → keptBy (left-by cs) ≡ [] → keptBy (left-by ds) ≡ [] → agrees (left-by cs .rec) (left-by ds .words) ≡ true
+  unseen-empty cs ds plain plain′ e f =
+      subst (λ (ws : List ℕ). agrees (left-by cs .rec) ws ≡ true) (emptied cs plain e ∙ sym (emptied ds plain′ f)) (demand-3 .holds h t came ok cs plain .settled .agreed)
 
 pub lent-right : LentRight
 unfolding agrees runsOf wordsOf repeated referencesOf runsShaped zeros lastEnd every place moment periodEnd lowEdge push encode tableOf unspent changedBy wordsBy openOutcome roomOutcome fitOutcome appendOutcome trimOutcome
@@ -78,7 +70,7 @@ lent-right =
       one-answer = λ s c o p left other l m. l .outcome ∙ sym (m .outcome);
       one-left = λ s c o p left other l m. left-is s c o left l ∙ sym (left-is s c p other m);
       number = λ s c o left plain l. ap outcomeNumber (l .outcome) ∙ number s c plain;
-      refused = λ s c why left l. left-is s c _ left l ∙ stays s c why (sym (l .outcome));
+      refused = λ s c why left l. left-is s c _ left l ∙ refused-stays s c why (sym (l .outcome));
       answers = answers;
       ends = ends;
       holds = λ h t came ok cs plain os left ls.

@@ -30,7 +30,7 @@ use Rattle.timeline.proofs.Kept.{taken, trim-passed}
 use Rattle.timeline.proofs.Pairs.{pair-passed, pair-trim}
 use Rattle.laws.specs.Calls.{Call, byTick, byStamp, trimAt, pairAt, Plain, State, after, afterCalls, outcomeOf, ifAccepted, brought, allAccepted, appendsOf, acceptedAppends, clockIf, clockOf, greatest}
 use Rattle.laws.specs.Pairs.{madeAs, madeApart, NoPair, PairRight}
-use Rattle.laws.proofs.Calling.{answered, pair-done, pair-refused}
+use Rattle.laws.proofs.Calling.{answered, pair-done, refused-stays}
 use Rattle.laws.proofs.Histories.{max-assoc}
 
 -- ---- one pair
@@ -66,9 +66,6 @@ module _ (s : State) (x : Stamp) (d n : ℕ) (c : WideMillis) where
 
   pair-ends : outcomeOf s pair ≡ Accepted → after s pair ≡ after appended (trimAt c)
   pair-ends e = pair-done s x d n c (answered s pair ∙ e)
-
-  pair-stays : (why : Refusal) → outcomeOf s pair ≡ Refused why → after s pair ≡ s
-  pair-stays why e = pair-refused s x d n c why (answered s pair ∙ e)
 
 -- ---- each call made apart
 
@@ -108,7 +105,7 @@ ends s (pairAt t d n c ∷ cs) = go (outcomeOf s (pairAt t d n c)) refl ∙ ends
     go : (o : Outcome) → outcomeOf s (pairAt t d n c) ≡ o →
         afterCalls s (ifAccepted o (byStamp t d n ∷ trimAt c ∷ []) ++ rest) ≡ afterCalls (after s (pairAt t d n c)) rest
     go Accepted e = ap (λ x. afterCalls x rest) (sym (pair-ends s t d n c e))
-    go (Refused why) e = ap (λ x. afterCalls x rest) (sym (pair-stays s t d n c why e))
+    go (Refused why) e = ap (λ x. afterCalls x rest) (sym (refused-stays s (pairAt t d n c) why e))
 
 -- ---- what calls come to, one after the other
 
@@ -150,7 +147,7 @@ module _ {A : Type 0} {join : A → A → A} {none : A} {each : State → Call �
           sym (g .along (each s (byStamp t d n)) (each a (trimAt c)) (all (after a (trimAt c)) rest)) ∙
           ap₂ (λ x y. join x (all y rest)) (sym (g .two s t d n c (p .0) e)) (sym (pair-ends s t d n c e))
       go (Refused why) e =
-          ap (λ x. all x rest) (sym (pair-stays s t d n c why e)) ∙
+          ap (λ x. all x rest) (sym (refused-stays s (pairAt t d n c) why e)) ∙
           sym (g .left (all (after s pair′) rest)) ∙
           ap (λ x. join x (all (after s pair′) rest)) (sym (g .no-one s t d n c why e))
 
@@ -206,7 +203,7 @@ pair-right =
     record {
       accepted = λ s x d n c narrow. record { only = both s x d n c narrow; if = from-both s x d n c };
       done = pair-ends;
-      refused = pair-stays;
+      refused = λ s x d n c. refused-stays s (pairAt x d n c);
       append-decides = λ s x d n c a l. judged s x d n c a (le-leb (c .0) largestMillis l);
       none-left = none-left;
       ends = ends;

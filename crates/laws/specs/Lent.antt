@@ -138,9 +138,10 @@ pub record LentRight : Type 2 where
       (record { rec = segment .rec; words = followedTable (s .rec) (s .words) (stampStanding x (s .rec .next)) d n c })
   -- an older copy is taken for the record wherever the words are still as they were
   pub unseen : (s : State) (cs : List Call) (c : Call) → afterCalls s cs .words ≡ s .words → outcomeOf (olderOver s (afterCalls s cs)) c ≡ outcomeOf s c
-  -- and the opening's own wherever nothing is kept
-  pub unseen-empty : (h : Head) (t : Tick) (came : List ℕ) → openOutcome h t ≡ Accepted → (cs : List Call) → Plain cs →
-      keptBy (afterCalls (opening h t came) cs) ≡ [] → agrees (opening h t came .rec) (afterCalls (opening h t came) cs .words) ≡ true
+  -- and one that keeps nothing, the opening's own among them, wherever nothing is kept any more
+  pub unseen-empty : (h : Head) (t : Tick) (came : List ℕ) → openOutcome h t ≡ Accepted → (cs ds : List Call) → Plain cs → Plain ds →
+      keptBy (afterCalls (opening h t came) cs) ≡ [] → keptBy (afterCalls (opening h t came) ds) ≡ [] →
+      agrees (afterCalls (opening h t came) cs .rec) (afterCalls (opening h t came) ds .words) ≡ true
   -- B: where a trim dropped a reference, the copy from before it is 2
   pub b-told : appendOf (olderOver trimB1 trimB2) 20_000 4000 1 ≡ Refused Disagreement
   -- B: where a trim only raised the clock, it is accepted, and the clock is lost
