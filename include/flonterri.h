@@ -200,8 +200,8 @@ uint32_t flonterri_append_stamp(uint64_t *record, size_t record_words, uint64_t 
                                 size_t out_words);
 
 /* Raises the greatest clock, unless it is greater already, and drops the references that are spent then. The
- * update period plays no part in it. Refusals 2, 10. Changes record and table; refused it changes nothing.
- * No null. */
+ * update period plays no part in it. It costs no coverage: a verdict at this clock or a later one is told as
+ * without it. Refusals 2, 10. Changes record and table; refused it changes nothing. No null. */
 uint32_t flonterri_trim(uint64_t *record, size_t record_words, uint64_t *table, size_t table_words, uint64_t clock);
 
 /* Appends by stamp and then trims at clock, as one call for each segment: record and table are tested once.

@@ -181,7 +181,7 @@ module _ (rec : Record) (ws : List ℕ) (a : agrees rec ws ≡ true) (o : rec .u
       ap₂ (λ s t. cond s (cond t u (Refused EarlierClock)) (Refused ClockLimit)) m l ∙
       sym (agreed-verdict rec ws a (windowAt (rec .head) (c .0)) x (getD ws 0 0) v n (first-reach rec ws a o) e)
 
-  by-period : endKnown (rec .head) ≡ true → (x : Needed) (v : Verdict) → NeededTicks (rec .head) (wholePeriod (rec .head)) x →
+  pub by-period : endKnown (rec .head) ≡ true → (x : Needed) (v : Verdict) → NeededTicks (rec .head) (wholePeriod (rec .head)) x →
       v ≡ verdictBy (named x) (inRange (getD ws 0 0) (rec .next .0)) (pastNamed x) → verdictWhole rec ws ≡ v
   by-period k x v n e =
       let u : Verdict = verdictOf (rec .head) (wholePeriod (rec .head)) (kept rec ws) in

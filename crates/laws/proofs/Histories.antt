@@ -404,6 +404,10 @@ module _ (h : Head) (t : Tick) (came : List ℕ) where
     unfolding changedBy wordsBy
     refused-is = ap leaves o
 
+-- each accepted reference lasts, and starts before the period end
+pub accepted-sound : (h : Head) (t : Tick) (came : List ℕ) → openOutcome h t ≡ Accepted → (cs : List Call) → Plain cs → Each (Sound h) (allAccepted (opening h t came) cs)
+accepted-sound h t came o cs p = ends-fit h t came o cs p .sound
+
 -- ---- the accepted references by the accepted appends
 
 laid : (h : Head) (t : Tick) (came : List ℕ) → openOutcome h t ≡ Accepted → (cs : List Call) →

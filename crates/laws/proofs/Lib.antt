@@ -35,3 +35,4 @@ pub mod Stamps
 pub mod Distance
 pub mod Update
 pub mod OldAnswers
+pub mod Coverage

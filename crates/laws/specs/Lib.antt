@@ -18,3 +18,4 @@ pub mod Demand1
 pub mod Update
 pub mod OldAnswers
 pub mod Stamps
+pub mod Coverage

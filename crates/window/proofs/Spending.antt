@@ -3,19 +3,19 @@
 use mathlib.Core.Path.{_≡_, refl, sym, ap₂, _∙_}
 use mathlib.Core.Bool.{Bool, true, false, cond, true≢false, false≢true}
 use Prim.Native.Nat.{ℕ, suc, _+_, _-_, _*_, _/_, _≤_, _<_, min, max}
-use native.Mathlib.Nat.{mul-le-mul-right, add-mul, one-mul, div-mul-le-self, lt-div-mul-add, le-refl, le-trans, le-of-lt, lt-of-le-of-lt}
+use native.Mathlib.Nat.{mul-le-mul-right, add-mul, one-mul, div-mul-le-self, lt-div-mul-add, le-refl, le-trans, le-of-lt, lt-of-le-of-lt, lt-of-lt-of-le, min-le-left, min-le-right, le-max-left, le-max-right, max-le, le-min}
 use native.Mathlib.Omega.{arith}
 use mathlib.Core.List.{List, [], _∷_}
 use lib.ListN.{take, drop}
-use borrow.Author.Tests.{leb-true, leb-false, eqb-false, le-ltb, lt-ltb, le-leb}
+use borrow.Author.Tests.{leb-true, leb-false, eqb-false, ltb-true, le-ltb, lt-ltb, le-leb}
 use lib.Dec.{leb, eqb}
 use Rattle.units.specs.Exactly.{ExactlyWhen}
 use Rattle.window.specs.declared.Head.{Head}
 use Rattle.window.specs.declared.Reference.{Reference}
 use Rattle.window.specs.Place.{endKnown, beforeEnd}
-use Rattle.window.specs.Window.{endOf, needed, Spent, passed}
+use Rattle.window.specs.Window.{endOf, windowAt, needed, Spent, passed, tickNeeded}
 use Rattle.window.specs.References.{EndToStart, Each, Sound}
-use Rattle.window.proofs.Unsigned.{endAt, placeN, lowN, cutN, highN, passed-is, needed-is, starts-before}
+use Rattle.window.proofs.Unsigned.{endAt, placeN, sinceStart, lowN, cutN, highN, passed-is, needed-is, starts-before, tick-is, window-inside}
 
 module _ (h : Head) where
   -- ---- a cut to the period end
@@ -73,6 +73,26 @@ module _ (h : Head) where
   passed-not r c p =
       let q : cutN h (placeN h (endOf r)) ≤ lowN h c = leb-true (cutN h (placeN h (endOf r))) (lowN h c) (sym (passed-is h (endOf r) c) ∙ p) in
       needed-is h r c ∙ le-ltb (max (placeN h (r .start .0)) (lowN h c)) (min (cutN h (placeN h (endOf r))) (highN h c)) (omega arith)
+
+  -- a reference in which a needed tick lies is needed itself
+  pub tick-needs : (r : Reference) (k c : ℕ) → r .start .0 ≤ k → k < endOf r → tickNeeded h (windowAt h c) k ≡ true → needed h r c ≡ true
+  tick-needs r k c l m t =
+      let begins : placeN h (r .start .0) ≤ placeN h k = omega arith in
+      let ends : placeN h (k + 1) ≤ placeN h (endOf r) = omega arith in
+      let shared : max (placeN h k) (lowN h c) < min (placeN h (k + 1)) (highN h c) =
+      ltb-true (max (placeN h k) (lowN h c)) (min (placeN h (k + 1)) (highN h c)) (sym (window-inside h c k ∙ tick-is h (lowN h c) (highN h c) k) ∙ t)
+      in
+      needed-is h r c ∙
+      lt-ltb (max (placeN h (r .start .0)) (lowN h c)) (min (cutN h (placeN h (endOf r))) (highN h c))
+      (within (placeN h (r .start .0)) (placeN h k) (placeN h (k + 1)) (placeN h (endOf r)) begins ends shared)
+    where
+      within : (a b e f : ℕ) → a ≤ b → e ≤ f → max b (lowN h c) < min e (highN h c) → max a (lowN h c) < min (cutN h f) (highN h c)
+      within a b e f i j q =
+          let low : ℕ = max b (lowN h c) in
+          let under : low < highN h c = lt-of-lt-of-le q (min-le-right e (highN h c)) in
+          let over : low < cutN h f = cut-both low f (lt-of-lt-of-le (lt-of-lt-of-le q (min-le-left e (highN h c))) j) (cut-end low (sinceStart h c) under) in
+          let back : max a (lowN h c) ≤ low = max-le (le-trans i (le-max-left b (lowN h c))) (le-max-right b (lowN h c)) in
+          lt-of-le-of-lt back (le-min over under)
 
   pub passed-spent : (r : Reference) (c : ℕ) → passed h (endOf r) c ≡ true → Spent h r c
   passed-spent r c p d l = passed-not r d (passed-later (endOf r) c d l p)

@@ -123,7 +123,7 @@ const WINDOWS: &[&str] = &[
 const OLDER: &[&str] = &["told", "taken", "clock lost", "spent lost", "emptied"];
 
 /// The ways in which calls can go besides their numbers.
-const WAYS: [(&str, &[&str]); 30] = [
+const WAYS: [(&str, &[&str]); 32] = [
     ("lengths", &["another record", "another out"]),
     ("damaged words", &["agree", "disagree"]),
     ("damaged update", &["agree", "disagree"]),
@@ -191,6 +191,14 @@ const WAYS: [(&str, &[&str]); 30] = [
             "update above 0",
         ],
     ),
+    (
+        "verdict, no trims",
+        &["nothing needed", "complete", "lacking", "10"],
+    ),
+    (
+        "others, no trims",
+        &["availability", "available_at", "covered_edge"],
+    ),
 ];
 
 /// Announces what the calls must meet.
@@ -226,6 +234,21 @@ pub fn meet_call(tally: &mut Tally, made: &Made) {
     }
     if !step.has_other_record() && !step.has_other_out() {
         meet_told(tally, made);
+    }
+    if made.untrimmed {
+        meet_untrimmed(tally, made);
+    }
+}
+
+/// Counts what a twin tells alike, although it keeps what was dropped.
+fn meet_untrimmed(tally: &mut Tally, made: &Made) {
+    let (number, out) = (made.answer.number, &made.answer.out);
+    match &made.step.call {
+        Call::Verdict { .. } if number == 0 => {
+            tally.meet("verdict, no trims", verdict_kind(out[0]));
+        }
+        Call::Verdict { .. } => tally.meet("verdict, no trims", &number.to_string()),
+        call => tally.meet("others, no trims", call.name()),
     }
 }
 
@@ -497,6 +520,7 @@ fn meet_append_trim(tally: &mut Tally, made: &Made, count: u32, clock: u64) {
             before: made.before,
             answer: &append.perform(&PLAIN, made.before),
             step: &append,
+            untrimmed: false,
         };
         meet_append(tally, &appended, "append_trim taken", count);
         let (between, after) = (after(&appended), after(made));

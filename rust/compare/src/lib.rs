@@ -27,6 +27,7 @@ mod state;
 mod step;
 mod tally;
 mod text;
+mod twin;
 mod weight;
 
 #[cfg(test)]

@@ -8,6 +8,7 @@ use crate::random::steps;
 use crate::shorten::shorten;
 use crate::step::{Answer, Call, Lent, Step};
 use crate::text::shown;
+use crate::twin::Twin;
 
 /// A sequence: how large its table is, and a seed for each step.
 #[derive(Clone, Debug)]
@@ -33,16 +34,27 @@ impl Sequence {
         }
     }
 
-    /// Makes every call through both sides, has each looked at, and stops at the first difference.
+    /// Makes every call through both sides, has a twin follow and each call looked at, and stops at
+    /// the first difference.
     pub fn run(&self, faces: &Faces, mut look: impl FnMut(&Made)) -> Result<(), Difference> {
         let mut before = Lent::anything(self.table_words);
+        let mut twin = Twin::default();
         // The records of this timeline before the calls that changed them, the opening's first.
         let mut earlier = Vec::new();
         let mut made = Vec::new();
         for seed in &self.steps {
             let step = steps::step(*seed, &before, &earlier);
             let makes_record = step.call.makes_record();
-            let after = compare_step(faces, &step, &before, &mut look);
+            let after = compare_step(faces, &step, &before).and_then(|answer| {
+                let untrimmed = twin.follow(&faces.judged, &before, &step, &answer)?;
+                look(&Made {
+                    before: &before,
+                    step: &step,
+                    answer: &answer,
+                    untrimmed,
+                });
+                Ok(step.after(&before, &answer))
+            });
             made.push(step);
             let after = after.map_err(|what| Difference {
                 table_words: self.table_words,
@@ -80,15 +92,12 @@ pub struct Made<'a> {
     pub step: &'a Step,
     /// What both left.
     pub answer: &'a Answer,
+    /// True where a twin without trims, which keeps more, tells the same.
+    pub untrimmed: bool,
 }
 
-/// Makes one call through both sides. What it leaves in memory, or the first difference.
-pub fn compare_step(
-    faces: &Faces,
-    step: &Step,
-    before: &Lent,
-    look: &mut impl FnMut(&Made),
-) -> Result<Lent, String> {
+/// Makes one call through both sides. What both leave, or the first difference.
+pub fn compare_step(faces: &Faces, step: &Step, before: &Lent) -> Result<Answer, String> {
     let judged = step.perform(&faces.judged, before);
     let plain = step.perform(&faces.plain, before);
     if let Some(difference) = judged.difference(&plain) {
@@ -97,12 +106,7 @@ pub fn compare_step(
             faces.judged.name, faces.plain.name, difference
         ));
     }
-    look(&Made {
-        before,
-        step,
-        answer: &plain,
-    });
-    Ok(step.after(before, &plain))
+    Ok(plain)
 }
 
 /// Where two sides differ: at the last of some calls.

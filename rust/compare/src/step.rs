@@ -98,6 +98,22 @@ impl Call {
         }
     }
 
+    /// The duration and the count that an append gives.
+    pub fn given(&self) -> Option<(u32, u32)> {
+        match self {
+            Call::Append {
+                duration, count, ..
+            }
+            | Call::AppendStamp {
+                duration, count, ..
+            }
+            | Call::AppendTrim {
+                duration, count, ..
+            } => Some((*duration, *count)),
+            _ => None,
+        }
+    }
+
     /// True where the call judges no record: it makes one.
     pub fn makes_record(&self) -> bool {
         matches!(self, Call::Open(_) | Call::Read { .. })

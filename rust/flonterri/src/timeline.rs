@@ -230,7 +230,8 @@ impl Timeline {
 
     /// Raises the greatest clock to this one, if it is later, and drops every reference that is
     /// needed neither at it nor at any later millisecond. An earlier clock changes nothing. The
-    /// update period plays no part in it. Refusal [`ClockLimit`](Refusal::ClockLimit).
+    /// update period plays no part in it. It costs no coverage: a verdict at this clock or a later one
+    /// is what it would be without the trim. Refusal [`ClockLimit`](Refusal::ClockLimit).
     ///
     /// ```
     /// # use flonterri::{Head, Millis, Span, Tick, Timeline, Timescale};
@@ -240,8 +241,10 @@ impl Timeline {
     /// timeline.append(Tick(0), Span(4000), 5)?;
     /// timeline.trim(Millis(13_999))?;
     /// assert_eq!(timeline.dropped(), 0);
+    /// let before = timeline.verdict(Millis(14_000))?;
     /// timeline.trim(Millis(14_000))?;
     /// assert_eq!(timeline.dropped(), 1);
+    /// assert_eq!(timeline.verdict(Millis(14_000))?, before);
     /// # Ok(())
     /// # }
     /// ```

@@ -513,14 +513,12 @@ pub fn judge_calls(faces: &Faces) -> Result<u64, String> {
         let opening = [(Call::Open(case.opening), accepted())];
         for (call, said) in opening.iter().chain(&case.calls) {
             let in_case = |what| format!("by hand, {}: {:?}: {}", case.name, call, what);
-            let mut differs = None;
-            lent = compare_step(faces, &Step::of(call.clone()), &lent, &mut |made| {
-                differs = said.differs(made.answer);
-            })
-            .map_err(in_case)?;
-            if let Some(what) = differs {
+            let step = Step::of(call.clone());
+            let answer = compare_step(faces, &step, &lent).map_err(in_case)?;
+            if let Some(what) = said.differs(&answer) {
                 return Err(in_case(what));
             }
+            lent = step.after(&lent, &answer);
             calls += 1;
         }
     }

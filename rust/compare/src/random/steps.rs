@@ -48,18 +48,9 @@ pub fn step(seed: u64, lent: &Lent, earlier: &[Vec<u64>]) -> Step {
 
 /// True where the plain side can store what the call would store in this memory.
 fn is_light(call: &Call, state: &State) -> bool {
-    match call {
-        Call::Append {
-            duration, count, ..
-        }
-        | Call::AppendStamp {
-            duration, count, ..
-        }
-        | Call::AppendTrim {
-            duration, count, ..
-        } => appends::is_light(state, *duration, *count),
-        _ => true,
-    }
+    call.given().map_or(true, |(duration, count)| {
+        appends::is_light(state, duration, count)
+    })
 }
 
 fn call(generator: &mut Generator, state: &State) -> Call {

@@ -123,9 +123,16 @@ fn counted(table_words: usize, call: Call) -> String {
     for call in [Call::Open(opening), append, call] {
         tally = Tally::default();
         announce_calls(&mut tally);
-        let mut look = |made: &Made| meet_call(&mut tally, made);
-        let after = compare_step(&faces, &Step::of(call), &lent, &mut look);
-        lent = after.expect("a side that is like itself");
+        let step = Step::of(call);
+        let answer = compare_step(&faces, &step, &lent).expect("a side that is like itself");
+        let made = Made {
+            before: &lent,
+            step: &step,
+            answer: &answer,
+            untrimmed: false,
+        };
+        meet_call(&mut tally, &made);
+        lent = step.after(&lent, &answer);
     }
     assert_eq!(tally.surprises(), [""; 0]);
     tally.to_string()
@@ -184,6 +191,7 @@ fn counted_older(calls: &[Call]) -> String {
         before: &lent,
         answer: &look.perform(&PLAIN, &lent),
         step: &look,
+        untrimmed: false,
     };
     meet_call(&mut tally, &made);
     tally.to_string()

@@ -6,3 +6,4 @@ mod kinds;
 mod planted;
 mod programs;
 mod small_parts;
+mod twin;

@@ -3,7 +3,7 @@
 use flonterri::words::word;
 
 use crate::calls::random_calls;
-use crate::face::{Append, AppendStamp, AppendTrim, Face, Faces, Read, PLAIN};
+use crate::face::{Append, AppendStamp, AppendTrim, Face, Faces, Read, Trim, PLAIN};
 use crate::generator::Generator;
 use crate::opening::Opening;
 use crate::sequence::Sequence;
@@ -280,21 +280,64 @@ fn a_trim_that_forgets_the_next_tick_of_an_emptied_table() {
     found(Face { trim, ..PLAIN }, "record word 9");
 }
 
+/// A trim that goes by the clock plus the update period.
+fn trim_by_update(record: &mut [u64], table: &mut [u64], clock: u64) -> u32 {
+    let at = |place: usize| record.get(place).copied().unwrap_or(0);
+    let later = clock.saturating_add(at(word::UPDATE_PERIOD));
+    if clock <= at(word::GREATEST_CLOCK) || later > limits::MILLIS {
+        return (PLAIN.trim)(record, table, clock);
+    }
+    let number = (PLAIN.trim)(record, table, later);
+    if number == 0 {
+        record[word::GREATEST_CLOCK] = clock;
+    }
+    number
+}
+
 #[test]
 fn a_trim_that_goes_by_the_clock_plus_the_update_period() {
-    let trim = |record: &mut [u64], table: &mut [u64], clock: u64| {
-        let at = |place: usize| record.get(place).copied().unwrap_or(0);
-        let later = clock.saturating_add(at(word::UPDATE_PERIOD));
-        if clock <= at(word::GREATEST_CLOCK) || later > limits::MILLIS {
-            return (PLAIN.trim)(record, table, clock);
-        }
-        let number = (PLAIN.trim)(record, table, later);
+    let trim = trim_by_update;
+    found(Face { trim, ..PLAIN }, "record word 8");
+}
+
+/// The fault is found although both sides have it: by a twin that is never trimmed.
+fn found_by_twin(trim: Trim, difference: &str) {
+    let planted = Face {
+        name: "planted",
+        trim,
+        ..PLAIN
+    };
+    let faces = Faces {
+        judged: planted,
+        plain: planted,
+    };
+    let run = random_calls(&faces, 1, 0, CALLS, &mut Tally::default());
+    let report = run.expect_err("a planted fault");
+    let differ = format!(
+        "planted and its twin without trims differ in {}",
+        difference
+    );
+    for said in [differ.as_str(), "again with --seed 1 --from "] {
+        assert!(report.contains(said), "{}", report);
+    }
+}
+
+#[test]
+fn a_trim_that_drops_too_much_on_both_sides() {
+    found_by_twin(trim_by_update, "out word ");
+}
+
+#[test]
+fn a_trim_that_gives_dropped_numbers_anew_on_both_sides() {
+    let trim: Trim = |record, table, clock| {
+        let number = (PLAIN.trim)(record, table, clock);
         if number == 0 {
-            record[word::GREATEST_CLOCK] = clock;
+            record[word::ACCEPTED] -= record[word::DROPPED];
+            record[word::DROPPED] = 0;
         }
         number
     };
-    found(Face { trim, ..PLAIN }, "record word 8");
+    found_by_twin(trim, "number: 0 and 13");
 }
 
 /// Only an older record keeps nothing over a table of two runs.
