@@ -3,13 +3,13 @@
 use mathlib.Core.Path.{_≡_, refl, sym, ap, ap₂, fun-ext, subst, subst⁻¹, _∙_}
 use mathlib.Core.Bool.{Bool, true, false, cond, _&&_, _||_, not}
 use mathlib.Core.List.{List, [], _∷_}
-use Prim.Native.Nat.{ℕ, zero, suc, _+_, _-_, _*_, _≤_, _<_, max}
-use native.Mathlib.Nat.{add-zero, add-mul, mul-le-mul-right, le-trans, le-refl, le-of-lt, lt-of-lt-of-le, max-le, le-max-left, le-max-right}
+use Prim.Native.Nat.{ℕ, _+_, _*_, _≤_, _<_, max}
+use native.Mathlib.Nat.{add-mul, mul-le-mul-right, le-trans, le-refl, le-of-lt, lt-of-lt-of-le, max-le, le-max-left, le-max-right}
 use native.Mathlib.Omega.{arith}
 use borrow.Author.Tests.{leb-true, leb-false, le-leb, lt-leb, eq-eqb, eqb-true, eqb-false}
 use lib.Dec.{lit<, lit≤, leb, eqb}
 use lib.IntN.{pos, _-ℤ_}
-use lib.ListN.{length, getD, drop}
+use lib.ListN.{length, getD, take, drop, take-append-drop, length-append}
 use lib.Signed.{leZ}
 use Rattle.units.proofs.Signed.{is-pos, le-is}
 use Rattle.units.specs.declared.Tick.{Tick}
@@ -72,7 +72,7 @@ use Rattle.laws.specs.ByHand.{wide, millis, number, trimming, trimOf, st
 use Rattle.laws.specs.Update.{fiveU}
 use Rattle.laws.specs.Coverage.{trimmedAtEach, NoneAfter, verdictIn, SameVerdict, SameAvailable, Memory, afterTrim, afterTrims, TellsAlike, unreached, headE, fiveE, CoverageStays}
 use Rattle.laws.proofs.Calling.{trimLeaves, trim-done, trim-refused, answered}
-use Rattle.laws.proofs.Leaving.{left-suffix, left-kept, drop-counted}
+use Rattle.laws.proofs.Leaving.{left-suffix, left-kept}
 use Rattle.laws.proofs.Histories.{accepted-sound, demand-3}
 use Rattle.laws.proofs.Spent.{only-spent}
 use Rattle.laws.proofs.Verdicts.{refused-at}
@@ -102,17 +102,6 @@ module _ (h : Head) (c d : ℕ) (l : c ≤ d) where
       by-need : (k : ℕ) (t : Bool) → tickNeeded h (windowAt h d) k ≡ t → (f : Bool → Bool) → (t && f (coveredBy stay k)) ≡ (t && f (coveredBy all k))
       by-need k true e f = ap f (picked-cover k e p)
       by-need k false e f = refl
-
--- ---- a number behind some references
-
-number-behind : (first m n : ℕ) (rs : List Reference) → first + m ≤ n → numbered (first + m) (drop m rs) n ≡ numbered first rs n
-unfolding numbered
-number-behind first zero n rs l = ap (λ (k : ℕ). numbered k rs n) (add-zero first)
-number-behind first (suc m) n [] l = refl
-number-behind first (suc m) n (r ∷ rs) l =
-    ap (λ (k : ℕ). numbered k (drop m rs) n) (omega arith) ∙
-    number-behind (suc first) m n rs (omega arith) ∙
-    sym (numbering.past first n r rs (λ e. let z : ⊥ = omega arith in z))
 
 -- ---- the whole period
 
@@ -229,18 +218,16 @@ module _ (s : State) (c : WideMillis) where
   same-number a n l =
       let h = s .rec .head in
       let m = max (s .rec .clock .0) (c .0) in
+      let all = keptBy s in
       let joined = kept-join (s .rec .used) (s .words) (agree-shaped (s .rec) (s .words) a) in
-      let first = getD (s .words) 0 0 in
-      let left = left-suffix h m first (keptBy s) joined in
-      let gone = length (keptBy s) - length (unspent h m (keptBy s)) in
-      let stay : keptBy (trimLeaves s c) ≡ drop gone (keptBy s) =
-      left-kept h m first (keptBy s) joined (length (s .words)) ∙
-      left .1 ∙
-      drop-counted (left .0) (keptBy s) ∙
-      ap (λ xs. drop (length (keptBy s) - length xs) (keptBy s)) (sym (left .1))
-      in
-      ap₂ (λ (k : ℕ) xs. numbered k xs n) (omega arith) stay ∙
-      number-behind (firstKept (s .rec)) gone n (keptBy s) (omega arith)
+      let left = left-suffix h m (getD (s .words) 0 0) all joined in
+      let gone = take (left .0) all in
+      let stay = drop (left .0) all in
+      let counted : length all ≡ length gone + length stay = ap length (sym (take-append-drop (left .0) all)) ∙ length-append gone stay in
+      let first : firstKept (trimLeaves s c .rec) ≡ firstKept (s .rec) + length gone = omega (arith, counted, ap length (left .1)) in
+      ap₂ (λ (k : ℕ) xs. numbered k xs n) first (left-kept h m (getD (s .words) 0 0) all joined (length (s .words)) ∙ left .1) ∙
+      sym (numbering.after (firstKept (s .rec)) n gone stay (omega (arith, first))) ∙
+      ap (λ xs. numbered (firstKept (s .rec)) xs n) (take-append-drop (left .0) all)
 
   same-available : (n : WideNumber) → firstKept (after s (trimAt c) .rec) ≤ n .0 → SameAvailable s (after s (trimAt c)) n
   same-available n =
