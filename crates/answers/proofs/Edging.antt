@@ -83,7 +83,7 @@ module _ (p : ℕ → Bool) where
 
 -- ---- the upper edge against a tick
 
-module _ (h : Head) (k : ℕ) where
+module _ (h : Head) where
   -- where the upper edge would be without a period end, in milliseconds
   abbrev ahead : ℕ → ℕ
   ahead c = c + h .update .0
@@ -95,51 +95,53 @@ module _ (h : Head) (k : ℕ) where
   unfolding periodEnd
   end-is = is-pos (endAt h)
 
-  clock-side : (c : ℕ) → leZ (moment h (pos (ahead c))) (place h k) ≡ leb (ahead c * h .timescale .0 + h .offset .0 * 1000) (k * 1000 + h .start .0 * h .timescale .0)
-  clock-side c =
-      le-is (moment h (pos (ahead c))) (place h k) (ahead c * h .timescale .0) (h .start .0 * h .timescale .0) (k * 1000) (h .offset .0 * 1000) (clock-is (ahead c)) (place-is h k)
-
-  end-side : leZ (periodEnd h) (place h k) ≡ leb (endAt h + h .offset .0 * 1000) (k * 1000 + 0)
-  end-side = le-is (periodEnd h) (place h k) (endAt h) 0 (k * 1000) (h .offset .0 * 1000) end-is (place-is h k)
-
-  end-clock : (c : ℕ) → leZ (periodEnd h) (moment h (pos (ahead c))) ≡ leb (endAt h + h .start .0 * h .timescale .0) (ahead c * h .timescale .0 + 0)
+  -- whether the clock's edge has reached the period end
+  pub end-clock : (c : ℕ) → leZ (periodEnd h) (moment h (pos (ahead c))) ≡ leb (endAt h + h .start .0 * h .timescale .0) (ahead c * h .timescale .0 + 0)
   end-clock c =
       le-is (periodEnd h) (moment h (pos (ahead c))) (endAt h) 0 (ahead c * h .timescale .0) (h .start .0 * h .timescale .0) end-is (clock-is (ahead c))
 
-  -- a tick that lies before the period end: the clock decides
-  pub by-clock : (c : ℕ) → beforeEnd h k ≡ true → atOrBefore h k c ≡ leb (ahead c * h .timescale .0 + h .offset .0 * 1000) (k * 1000 + h .start .0 * h .timescale .0)
-  unfolding highEdge
-  by-clock c b = go (endKnown h) (sym (before-is h k) ∙ b) ∙ clock-side c
-    where
-      cut : k * 1000 < h .offset .0 * 1000 + endAt h → (s : Bool) → leZ (periodEnd h) (moment h (pos (ahead c))) ≡ s →
-          leZ (cond s (periodEnd h) (moment h (pos (ahead c)))) (place h k) ≡ leZ (moment h (pos (ahead c))) (place h k)
-      cut l true e =
-          let m : endAt h + h .start .0 * h .timescale .0 ≤ ahead c * h .timescale .0 + 0 = leb-true _ _ (sym (end-clock c) ∙ e) in
-          end-side ∙ lt-leb (endAt h + h .offset .0 * 1000) (k * 1000 + 0) (omega arith) ∙
-          sym (clock-side c ∙ lt-leb (ahead c * h .timescale .0 + h .offset .0 * 1000) (k * 1000 + h .start .0 * h .timescale .0) (omega arith))
-      cut l false e = refl
+  module _ (k : ℕ) where
+    clock-side : (c : ℕ) → leZ (moment h (pos (ahead c))) (place h k) ≡ leb (ahead c * h .timescale .0 + h .offset .0 * 1000) (k * 1000 + h .start .0 * h .timescale .0)
+    clock-side c =
+        le-is (moment h (pos (ahead c))) (place h k) (ahead c * h .timescale .0) (h .start .0 * h .timescale .0) (k * 1000) (h .offset .0 * 1000) (clock-is (ahead c)) (place-is h k)
 
-      go : (t : Bool) → cond t (ltb (k * 1000) (h .offset .0 * 1000 + endAt h)) true ≡ true →
-          leZ (cond t (earlier (periodEnd h) (moment h (pos (ahead c)))) (moment h (pos (ahead c)))) (place h k) ≡ leZ (moment h (pos (ahead c))) (place h k)
-      go true e = cut (ltb-true (k * 1000) (h .offset .0 * 1000 + endAt h) e) (leZ (periodEnd h) (moment h (pos (ahead c)))) refl
-      go false e = refl
+    end-side : leZ (periodEnd h) (place h k) ≡ leb (endAt h + h .offset .0 * 1000) (k * 1000 + 0)
+    end-side = le-is (periodEnd h) (place h k) (endAt h) 0 (k * 1000) (h .offset .0 * 1000) end-is (place-is h k)
 
-  -- a tick that reaches a known period end: no upper edge lies after it
-  pub by-end : (c : ℕ) → beforeEnd h k ≡ false → atOrBefore h k c ≡ true
-  unfolding highEdge
-  by-end c b = go (endKnown h) (sym (before-is h k) ∙ b)
-    where
-      cut : h .offset .0 * 1000 + endAt h ≤ k * 1000 → (s : Bool) → leZ (periodEnd h) (moment h (pos (ahead c))) ≡ s →
-          leZ (cond s (periodEnd h) (moment h (pos (ahead c)))) (place h k) ≡ true
-      cut l true e = end-side ∙ le-leb (endAt h + h .offset .0 * 1000) (k * 1000 + 0) (omega arith)
-      cut l false e =
-          let m : ahead c * h .timescale .0 + 0 < endAt h + h .start .0 * h .timescale .0 = leb-false _ _ (sym (end-clock c) ∙ e) in
-          clock-side c ∙ le-leb (ahead c * h .timescale .0 + h .offset .0 * 1000) (k * 1000 + h .start .0 * h .timescale .0) (omega arith)
+    -- a tick that lies before the period end: the clock decides
+    pub by-clock : (c : ℕ) → beforeEnd h k ≡ true → atOrBefore h k c ≡ leb (ahead c * h .timescale .0 + h .offset .0 * 1000) (k * 1000 + h .start .0 * h .timescale .0)
+    unfolding highEdge
+    by-clock c b = go (endKnown h) (sym (before-is h k) ∙ b) ∙ clock-side c
+      where
+        cut : k * 1000 < h .offset .0 * 1000 + endAt h → (s : Bool) → leZ (periodEnd h) (moment h (pos (ahead c))) ≡ s →
+            leZ (cond s (periodEnd h) (moment h (pos (ahead c)))) (place h k) ≡ leZ (moment h (pos (ahead c))) (place h k)
+        cut l true e =
+            let m : endAt h + h .start .0 * h .timescale .0 ≤ ahead c * h .timescale .0 + 0 = leb-true _ _ (sym (end-clock c) ∙ e) in
+            end-side ∙ lt-leb (endAt h + h .offset .0 * 1000) (k * 1000 + 0) (omega arith) ∙
+            sym (clock-side c ∙ lt-leb (ahead c * h .timescale .0 + h .offset .0 * 1000) (k * 1000 + h .start .0 * h .timescale .0) (omega arith))
+        cut l false e = refl
 
-      go : (t : Bool) → cond t (ltb (k * 1000) (h .offset .0 * 1000 + endAt h)) true ≡ false →
-          leZ (cond t (earlier (periodEnd h) (moment h (pos (ahead c)))) (moment h (pos (ahead c)))) (place h k) ≡ true
-      go true e = cut (ltb-false (k * 1000) (h .offset .0 * 1000 + endAt h) e) (leZ (periodEnd h) (moment h (pos (ahead c)))) refl
-      go false e = absurd (true≢false e)
+        go : (t : Bool) → cond t (ltb (k * 1000) (h .offset .0 * 1000 + endAt h)) true ≡ true →
+            leZ (cond t (earlier (periodEnd h) (moment h (pos (ahead c)))) (moment h (pos (ahead c)))) (place h k) ≡ leZ (moment h (pos (ahead c))) (place h k)
+        go true e = cut (ltb-true (k * 1000) (h .offset .0 * 1000 + endAt h) e) (leZ (periodEnd h) (moment h (pos (ahead c)))) refl
+        go false e = refl
+
+    -- a tick that reaches a known period end: no upper edge lies after it
+    pub by-end : (c : ℕ) → beforeEnd h k ≡ false → atOrBefore h k c ≡ true
+    unfolding highEdge
+    by-end c b = go (endKnown h) (sym (before-is h k) ∙ b)
+      where
+        cut : h .offset .0 * 1000 + endAt h ≤ k * 1000 → (s : Bool) → leZ (periodEnd h) (moment h (pos (ahead c))) ≡ s →
+            leZ (cond s (periodEnd h) (moment h (pos (ahead c)))) (place h k) ≡ true
+        cut l true e = end-side ∙ le-leb (endAt h + h .offset .0 * 1000) (k * 1000 + 0) (omega arith)
+        cut l false e =
+            let m : ahead c * h .timescale .0 + 0 < endAt h + h .start .0 * h .timescale .0 = leb-false _ _ (sym (end-clock c) ∙ e) in
+            clock-side c ∙ le-leb (ahead c * h .timescale .0 + h .offset .0 * 1000) (k * 1000 + h .start .0 * h .timescale .0) (omega arith)
+
+        go : (t : Bool) → cond t (ltb (k * 1000) (h .offset .0 * 1000 + endAt h)) true ≡ false →
+            leZ (cond t (earlier (periodEnd h) (moment h (pos (ahead c)))) (moment h (pos (ahead c)))) (place h k) ≡ true
+        go true e = cut (ltb-false (k * 1000) (h .offset .0 * 1000 + endAt h) e) (leZ (periodEnd h) (moment h (pos (ahead c)))) refl
+        go false e = absurd (true≢false e)
 
 -- ---- what the code answers
 

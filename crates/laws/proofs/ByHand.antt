@@ -66,7 +66,7 @@ stateB = stateOf headB 5 0 20_000 0 1 (0 ∷ 4000 ∷ 5 ∷ [])
 abbrev stateB1 : State
 stateB1 = stateOf headB 5 0 20_000 13_999 1 (0 ∷ 4000 ∷ 5 ∷ [])
 
-abbrev stateB2 : State
+abbrev pub stateB2 : State
 stateB2 = stateOf headB 5 1 20_000 14_000 1 (4000 ∷ 4000 ∷ 4 ∷ [])
 
 abbrev stateB3 : State

@@ -11,7 +11,6 @@ use lib.Dec.{lit<, lit≤, leb, eqb}
 use lib.IntN.{pos, _-ℤ_}
 use lib.ListN.{length, getD, take, drop, take-append-drop, length-append}
 use lib.Signed.{leZ}
-use Rattle.units.proofs.Signed.{is-pos, le-is}
 use Rattle.units.specs.declared.Tick.{Tick}
 use Rattle.units.specs.declared.WideMillis.{WideMillis}
 use Rattle.units.specs.declared.WideNumber.{WideNumber}
@@ -23,7 +22,7 @@ use Rattle.window.specs.Place.{place, moment, endKnown, periodEnd, later}
 use Rattle.window.specs.Window.{windowAt, wholePeriod, lowEdge, highEdge, endOf, tickNeeded}
 use Rattle.window.specs.References.{EndToStart, Each, Sound}
 use Rattle.window.proofs.Ranges.{range-first, range-last}
-use Rattle.window.proofs.Unsigned.{endAt, moment-is}
+use Rattle.window.proofs.Unsigned.{endAt}
 use Rattle.window.proofs.Spending.{tick-needs}
 use Rattle.window.proofs.Division.{window-ticks, period-ticks}
 use Rattle.runs.specs.Words.{runsOf, wordsOf, repeated, referencesOf}
@@ -53,6 +52,7 @@ use Rattle.answers.specs.Shares.{verdictPercent}
 use Rattle.answers.specs.Edge.{edgeOf, coveredEdge}
 use Rattle.answers.proofs.Counting.{refuted}
 use Rattle.answers.proofs.Cases.{asked-at}
+use Rattle.answers.proofs.Edging.{end-clock}
 use Rattle.answers.proofs.Judging.{all-covered, first-lacking, end-lacking}
 use Rattle.lookups.specs.declared.Availability.the-variants as availability
 use Rattle.lookups.specs.declared.AvailableAt.the-variants as at
@@ -77,7 +77,7 @@ use Rattle.laws.proofs.Histories.{accepted-sound, demand-3}
 use Rattle.laws.proofs.Spent.{only-spent}
 use Rattle.laws.proofs.Verdicts.{refused-at}
 use Rattle.laws.proofs.Update.{update-right}
-use Rattle.laws.proofs.ByHand.{stateB, agreed, by-hand, by-clock, by-period, one-run}
+use Rattle.laws.proofs.ByHand.{stateB, stateB2, agreed, by-hand, by-clock, by-period, one-run}
 
 -- ---- references that stay cover what is needed
 
@@ -108,13 +108,10 @@ module _ (h : Head) (c d : ℕ) (l : c ≤ d) where
 -- where no depth is given the window at a clock past a known period end is the whole period
 module _ (h : Head) (c : ℕ) (none : h .depth .0 ≡ 0) (known : endKnown h ≡ true) (past : h .start .0 + h .duration .0 ≤ c) where
   over : leZ (periodEnd h) (moment h (pos (c + h .update .0))) ≡ true
-  unfolding periodEnd
   over =
       let rate = h .timescale .0 in
-      let at = c + h .update .0 in
-      let m : (h .start .0 + h .duration .0) * rate ≤ at * rate = mul-le-mul-right rate (omega arith) in
-      le-is (periodEnd h) (moment h (pos at)) (endAt h) 0 (at * rate) ((0 + h .start .0) * rate) (is-pos (endAt h)) (moment-is h (pos at) at 0 (is-pos at)) ∙
-      le-leb (endAt h + (0 + h .start .0) * rate) (at * rate + 0) (omega (arith, m, add-mul (h .start .0) (h .duration .0) rate, add-mul 0 (h .start .0) rate))
+      let m : (h .start .0 + h .duration .0) * rate ≤ (c + h .update .0) * rate = mul-le-mul-right rate (omega arith) in
+      end-clock h c ∙ le-leb (endAt h + h .start .0 * rate) ((c + h .update .0) * rate + 0) (omega (arith, m, add-mul (h .start .0) (h .duration .0) rate))
 
   whole-is : wholePeriod h ≡ windowAt h c
   unfolding lowEdge highEdge
@@ -339,9 +336,6 @@ stateE = stateOf headE 5 0 20_000 0 1 (0 ∷ 4000 ∷ 5 ∷ [])
 abbrev stateE1 : State
 stateE1 = stateOf headE 5 1 20_000 14_000 1 (4000 ∷ 4000 ∷ 4 ∷ [])
 
-abbrev stateB1 : State
-stateB1 = stateOf headB 5 1 20_000 14_000 1 (4000 ∷ 4000 ∷ 4 ∷ [])
-
 -- each call from the state that stands before it
 record Worked : Type 0 where
   thrice : trimmedAtEach stateB (millis 18_000 ∷ millis 13_999 ∷ millis 24_000 ∷ []) ≡ stateOf headB 5 3 20_000 24_000 1 (12_000 ∷ 4000 ∷ 2 ∷ [])
@@ -353,7 +347,7 @@ record Worked : Type 0 where
   less : trimming stateE 14_000 ≡ stateE1
   less-agrees : agrees (stateE1 .rec) (stateE1 .words) ≡ true
   offered : availableIn (stateB .rec) (stateB .words) (number 1) (millis 14_000) ≡ at.Yes
-  dropped : availableIn (stateB1 .rec) (stateB1 .words) (number 1) (millis 14_000) ≡ at.Refused NotKept
+  dropped : availableIn (stateB2 .rec) (stateB2 .words) (number 1) (millis 14_000) ≡ at.Refused NotKept
 
 worked : Worked
 unfolding agrees runsOf wordsOf repeated referencesOf runsShaped zeros lastEnd every place moment periodEnd lowEdge push encode tableOf unspent changedBy wordsBy openOutcome roomOutcome fitOutcome appendOutcome trimOutcome trimmedAtEach numbered
@@ -426,7 +420,7 @@ coverage-stays =
       as-if-kept = as-if-kept;
       c-trim = c-trim;
       c-trims = c-trims;
-      available = trims-available;
+      available = λ s cs n l. trims-available s cs n l;
       edge = trims-edge;
       b-without = b-without;
       b-state = b-is (λ s. trimmedAtEach s (millis 18_000 ∷ millis 13_999 ∷ millis 24_000 ∷ [])) _ (worked .thrice);

@@ -33,7 +33,6 @@ impl Twin {
             (Call::Open(_) | Call::Read { .. }, 0) => {
                 self.make(face, step.call.clone(), &Lent::anything(TABLE_WORDS))?;
             }
-            (Call::Open(_) | Call::Read { .. }, _) => self.0 = None,
             // The changed words stay where they are accepted: then it is another timeline.
             (_, 0) if step.spoils_memory() => self.0 = None,
             _ if step.spoils_memory() => {}
