@@ -1,4 +1,6 @@
 // The record of a timeline, and whether a record and a table agree.
+#![tactic(auto)]
+
 use units::{Millis, Tick};
 use window::{Head, Reference};
 
@@ -10,7 +12,7 @@ pub use judge::{counts_held, is_passed};
 pub use refusal::Refusal;
 
 // What is kept beside the table: the head, the counts, the next tick, the greatest clock.
-#[derive(Drop)]
+#[derive(Clone, Copy)]
 pub struct Record {
     pub head: Head,
     pub accepted: u64,
@@ -22,7 +24,7 @@ pub struct Record {
 
 // What a pass over the used runs finds: a run out of shape, no run, or the first and the last
 // reference with how many there are.
-#[derive(Drop)]
+#[derive(Clone, Copy)]
 pub enum Found {
     Unshaped,
     Nothing,

@@ -5,7 +5,7 @@ ghost use Rattle.agreement.specs.Numbers.{refusal_number, refusal_distance};
 
 use units::Distance;
 
-#[derive(Drop)]
+#[derive(Clone, Copy)]
 pub enum Refusal {
     OverLimit,
     Disagreement,

@@ -1,5 +1,7 @@
 // The calls that judge the window: what is needed and covered, in percent too, and up to which clock
 // the window ends in what was appended. None of them changes a word.
+#![tactic(auto)]
+
 ghost use Rattle.std.specs.Prelude.{◌≡◌};
 ghost use Rattle.answers.specs.Numbers.{verdict_number, edge_number};
 
@@ -12,7 +14,7 @@ pub mod verdicts;
 
 // Nothing is needed; or the needed count, all covered; or the needed count, the covered count and
 // the lowest needed tick that is not covered.
-#[derive(Drop)]
+#[derive(Clone, Copy)]
 pub enum Verdict {
     Nothing,
     Complete(u64),
@@ -21,14 +23,14 @@ pub enum Verdict {
 }
 
 // Whole percent, or none.
-#[derive(Drop)]
+#[derive(Clone, Copy)]
 pub enum Percent {
     Of(u64),
     Undefined,
 }
 
 // The latest clock at which the window's upper edge has not passed the next tick, or none.
-#[derive(Drop)]
+#[derive(Clone, Copy)]
 pub enum CoveredEdge {
     At(Millis),
     Never,

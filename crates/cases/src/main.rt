@@ -1,6 +1,8 @@
 // The paper's cases for the calls that change and those that look, with the limits, run over tables of
 // four lengths. Standard input has the steps, a line each. What must come out is stored from the
 // separate Rust one (rust/plain/examples/cases.rs), which reads the same steps.
+#![tactic(auto)]
+
 use agreement::Record;
 use keeping::Changed;
 use libc::{STDIN_FILENO, STDOUT_FILENO};

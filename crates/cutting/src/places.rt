@@ -11,7 +11,7 @@ use units::{Tick, WideTick};
 
 // So many whole runs end at or before the cut, with so many references; of the run behind them so
 // many references have ended by it, and so many have begun before it.
-#[derive(Drop)]
+#[derive(Clone, Copy)]
 pub(crate) struct Place {
     pub(crate) whole: usize,
     pub(crate) before: u64,

@@ -1,4 +1,6 @@
 // A file read into a table, as opening plus appends, at once or piece by piece.
+#![tactic(auto)]
+
 use agreement::{Record, Refusal};
 use keeping::Outcome;
 
@@ -11,7 +13,7 @@ pub use lines::line_end;
 
 // Which line may come next: the head, an S line, an S line or the end, the end alone after a negative
 // r, nothing more; or no line matters, since one was refused.
-#[derive(Drop)]
+#[derive(Clone, Copy)]
 pub enum Stage {
     Nothing,
     Headed,
@@ -22,7 +24,7 @@ pub enum Stage {
 }
 
 // How far a file is read: the stage, the lines taken, and the record that they opened and appended to.
-#[derive(Drop)]
+#[derive(Clone, Copy)]
 pub struct Reading {
     pub stage: Stage,
     pub lines: u64,
@@ -31,7 +33,7 @@ pub struct Reading {
 
 // The first bytes of a line that is not ended, how many they are, and zeros behind them. One byte more
 // than the longest frame has is enough to see that a line is too long.
-#[derive(Drop)]
+#[derive(Clone, Copy)]
 pub struct LineSoFar {
     pub bytes: [u8; lines::MOST_BYTES],
     pub count: usize,
@@ -39,14 +41,14 @@ pub struct LineSoFar {
 
 // A reader that is fed a file piece by piece: how far it is, and the line that is not ended yet. `begin`
 // makes one, and `feed` and `finish` refuse one that does not belong to the table lent with it.
-#[derive(Drop)]
+#[derive(Clone, Copy)]
 pub struct Reader {
     pub reading: Reading,
     pub line: LineSoFar,
 }
 
 // What a reading came to: the record, zero where the file is refused, and then the refused line.
-#[derive(Drop)]
+#[derive(Clone, Copy)]
 pub struct ReadAnswer {
     pub outcome: Outcome,
     pub rec: Record,

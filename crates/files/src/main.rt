@@ -2,6 +2,8 @@
 // the arguments name, read three ways into a table of two runs: byte by byte, in pieces of seven
 // bytes, and at once; and what was accepted, written again. What must come out is stored from the separate
 // Rust one (rust/plain/examples/files.rs).
+#![tactic(auto)]
+
 ghost use Rattle.std.specs.Prelude.{◌≡◌, min, ◌≤◌};
 
 use agreement::Record;

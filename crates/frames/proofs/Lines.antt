@@ -10,8 +10,8 @@ use native.Mathlib.Omega.{arith}
 use borrow.Author.Tests.{eq-eqb, eqb-true}
 use lib.Dec.{eqb}
 use lib.ListN.{length, get_or, drop, length-append}
-use Rattle.hex.specs.Digits.{between, is_digit, are_digits}
-use Rattle.hex.proofs.Widths.{digit_at}
+use Rattle.hexdigits.specs.Digits.{between, is_digit, are_digits}
+use Rattle.hexdigits.proofs.Widths.{digit_at}
 use Rattle.frames.specs.Fields.{field_digits, field_values, Fit}
 use Rattle.frames.specs.Frames.{widths_of, line_widths, line_length, ended_length, longest_line, kind_of, values_of, frame_from, is_frame, Fits, line_of, ended_line, kind_at, frame_as, frame_of}
 use Rattle.frames.specs.Language.{Language}

@@ -8,8 +8,8 @@ use native.Mathlib.Nat.{lt_of_lt_of_le, pow-le-pow_right}
 use native.Mathlib.Omega.{arith}
 use lib.ListN.{length, take, drop, length-append, length-take, length-drop, take-append-drop}
 use lib.Seq.{take_at, drop_at, length-take-le}
-use Rattle.hex.specs.Digits.{are_digits, number_of, digits_of}
-use Rattle.hex.proofs.Widths.{length_digits, digits_are_digits, number_below, digits_written_read, digits_read_written, digits_joined}
+use Rattle.hexdigits.specs.Digits.{are_digits, number_of, digits_of}
+use Rattle.hexdigits.proofs.Widths.{length_digits, digits_are_digits, number_below, digits_written_read, digits_read_written, digits_joined}
 use Rattle.frames.specs.Fields.{digit_count, field_digits, field_values, Fit}
 
 pub fit_length : (ws vs : List ℕ) → Fit ws vs → length vs ≡ length ws

@@ -1,7 +1,7 @@
 -- The fields of a line stand one after another, each over its own width in bytes, as big-endian hexadecimal digits, two to a
 -- byte. Paper: The file.
 use Rattle.std.specs.Prelude.{List, [], ◌∷◌, ◌++◌, ℕ, ◌+◌, ◌-◌, ◌*◌, ◌^◌, ◌≤◌, ◌<◌, take, drop}
-use Rattle.hex.specs.Digits.{number_of, digits_of}
+use Rattle.hexdigits.specs.Digits.{number_of, digits_of}
 
 -- how many digits fields of these widths take
 abbrev pub digit_count : List ℕ → ℕ

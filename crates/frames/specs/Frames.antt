@@ -2,7 +2,7 @@
 -- and a line feed after it. A line that is too short or too long for its kind, is not of lower-case hexadecimal digits, or is
 -- of no known kind, is no frame. A head is of kind 01, without an update period, or of kind 05, with one. Paper: The file.
 use Rattle.std.specs.Prelude.{◌≡◌, Bool, true, false, cond, List, [], ◌∷◌, ◌++◌, ℕ, ◌+◌, eqb, length, get_or, take, drop}
-use Rattle.hex.specs.Digits.{are_digits, number_of}
+use Rattle.hexdigits.specs.Digits.{are_digits, number_of}
 use Rattle.frames.specs.Fields.{digit_count, field_digits, field_values, Fit}
 use Rattle.window.specs.declared.HeadFields.{HeadFields}
 use Rattle.frames.specs.declared.HeadLine.{HeadLine}

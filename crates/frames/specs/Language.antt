@@ -1,7 +1,7 @@
 -- The language of a line, said without reading one. The lines that are frames are those of the frames that fit: the kind's two digits, then each field
 -- over its own width. Every other line is no frame, and no two frames share a line. Paper: The file; Refusal numbers, 16.
 use Rattle.std.specs.Prelude.{◌≡◌, ◌↔◌, true, List, [], ◌∷◌, ℕ, ◌<◌, length, get_or}
-use Rattle.hex.specs.Digits.{are_digits}
+use Rattle.hexdigits.specs.Digits.{are_digits}
 use Rattle.frames.specs.Frames.{line_length, longest_line, kind_of, is_frame, Fits, line_of, frame_of}
 use Rattle.frames.specs.declared.Frame.{Frame}
 use Rattle.frames.specs.declared.Frame.TheVariants.{Bad}

@@ -1,8 +1,8 @@
 -- The whole file of case B after its trim at 18,000, line by line: each line is the frame that the paper means by it.
 -- Paper: The file; By hand, B.
 use Rattle.std.specs.Prelude.{◌≡◌, refl, ℕ}
-use Rattle.hex.specs.Ascii.{ascii}
-use Rattle.hex.specs.Digits.{between, is_digit, value_of, are_digits, number_of}
+use Rattle.hexdigits.specs.Ascii.{ascii}
+use Rattle.hexdigits.specs.Digits.{between, is_digit, value_of, are_digits, number_of}
 use Rattle.window.specs.declared.HeadFields.{HeadFields}
 use Rattle.frames.specs.Fields.{field_values}
 use Rattle.frames.specs.Frames.{line_length, head_line, frame_as, frame_of}

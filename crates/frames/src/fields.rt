@@ -12,7 +12,7 @@ pub(crate) fn read_fields(line: &[u8], widths: &[usize], values: &mut [u64])
     let mut i = 0;
     while i < widths.len() {
         let end = at + 2 * widths[i];
-        values[i] = hex::number(&line[at..end]);
+        values[i] = hexdigits::number(&line[at..end]);
         at = end;
         i += 1;
     }
@@ -27,7 +27,7 @@ pub(crate) fn write_fields(out: &mut [u8], widths: &[usize], values: &[u64]) -> 
     let mut i = 0;
     while i < widths.len() {
         let end = at + 2 * widths[i];
-        hex::write_digits(&mut out[at..end], values[i]);
+        hexdigits::write_digits(&mut out[at..end], values[i]);
         at = end;
         i += 1;
     }

@@ -1,4 +1,6 @@
 // One line of the file as a frame, read and written. A line here is the bytes before its line feed.
+#![tactic(auto)]
+
 ghost use Rattle.std.specs.Prelude.{◌≡◌, ◌<◌, length};
 ghost use Rattle.frames.specs.Frames.{Fits, Written, fields_in, frame_of, head_kind, head_line, kind_of, line_length};
 
@@ -11,7 +13,7 @@ use window::HeadFields;
 
 // The fields of an S line as they stand in the file: what an absent t and a negative r mean, and
 // whether d is a duration, is judged above.
-#[derive(Drop)]
+#[derive(Clone, Copy)]
 pub struct SFields {
     pub t: WideTick,
     pub d: u64,
@@ -24,14 +26,14 @@ impl SFields {
 }
 
 // The update period of a head line: a line of kind 01 has none.
-#[derive(Drop)]
+#[derive(Clone, Copy)]
 pub enum UpdateField {
     Absent,
     Of(u64),
 }
 
 // The fields of a head line as they stand in the file.
-#[derive(Drop)]
+#[derive(Clone, Copy)]
 pub struct HeadLine {
     pub timescale: u64,
     pub offset: u64,
@@ -80,7 +82,7 @@ impl HeadLine {
 }
 
 // A frame by its kind, or the mark of a line that is none. Its fields are any that its widths hold.
-#[derive(Drop)]
+#[derive(Clone, Copy)]
 pub enum Frame {
     Head(HeadLine),
     S(SFields),
@@ -107,13 +109,13 @@ pub fn line_length(kind: u64) -> usize
 pub fn read_line(line: &[u8]) -> Frame
     ensures { result ≡ frame_of line.now }
 {
-    if !hex::are_digits(line) {
+    if !hexdigits::are_digits(line) {
         return Frame::Bad;
     }
     if line.len() < 2 {
         return Frame::Bad;
     }
-    let kind = hex::number(&line[0..2]);
+    let kind = hexdigits::number(&line[0..2]);
     if line.len() != line_length(kind) {
         return Frame::Bad;
     }

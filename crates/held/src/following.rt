@@ -10,7 +10,7 @@ use keeping::Outcome;
 use units::{Stamp, WideMillis};
 
 // What came of the two, and the record to go on with.
-#[derive(Drop)]
+#[derive(Clone, Copy)]
 pub struct Followed {
     pub appended: Outcome,
     pub trimmed: Outcome,

@@ -1,5 +1,7 @@
 // What a timeline keeps: which references a clock leaves, and the append that joins. Here is what stands
 // under the calls that change and under the reader of a file.
+#![tactic(auto)]
+
 ghost use Rattle.std.specs.Prelude.{◌≡◌};
 ghost use Rattle.keeping.specs.Keeping.{outcome_number, outcome_distance};
 
@@ -12,7 +14,7 @@ pub use appending::append_joined;
 pub use spent::count_passed;
 
 // What came of a call that changes.
-#[derive(Drop)]
+#[derive(Clone, Copy)]
 pub enum Outcome {
     Accepted,
     Refused(Refusal),
@@ -41,7 +43,7 @@ impl Outcome {
 }
 
 // The outcome, and the record to go on with: as it came where the call is refused.
-#[derive(Drop)]
+#[derive(Clone, Copy)]
 pub struct Changed {
     pub outcome: Outcome,
     pub rec: Record,

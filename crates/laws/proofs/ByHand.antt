@@ -39,10 +39,10 @@ use Rattle.answers.proofs.Agreed.{first_reach, agreed_verdict}
 use Rattle.answers.proofs.Judging.{all_covered, first_lacking, end_lacking, judge_nothing}
 use Rattle.lookups.specs.declared.Availability.TheVariants as answer
 use Rattle.lookups.specs.Available.{numbered, kept_number, number_availability, availability_in}
-use Rattle.hex.specs.Digits as hex
+use Rattle.hexdigits.specs.Digits as hex
 use Rattle.frames.specs.Fields as fields
 use Rattle.frames.specs.Frames as frames
-use Rattle.hex.specs.Ascii.{ascii}
+use Rattle.hexdigits.specs.Ascii.{ascii}
 use Rattle.file.specs.Lines.{lines_from, rest_from}
 use Rattle.file.specs.Least.{least_from, least_count}
 use Rattle.file.specs.Judging as judging

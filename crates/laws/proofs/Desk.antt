@@ -28,7 +28,7 @@ use Rattle.frames.specs.declared.Frame.TheVariants as frame
 use Rattle.frames.specs.declared.UpdateField.{UpdateField}
 use Rattle.frames.specs.declared.UpdateField.TheVariants.{Absent, Of}
 use Rattle.frames.specs.Frames.{head_kind, kind_of, line_of, frame_of}
-use Rattle.hex.specs.Ascii.{ascii}
+use Rattle.hexdigits.specs.Ascii.{ascii}
 use Rattle.frames.proofs.Lines.{language}
 use Rattle.file.specs.declared.ReadAnswer.{ReadAnswer}
 use Rattle.file.specs.Lines.{line_feed, has_feed, first_line, behind_first}

@@ -11,7 +11,7 @@ use lib.Seq.{drop-append_seam}
 use Rattle.units.specs.declared.WideTick.{WideTick}
 use Rattle.answers.specs.declared.Verdict.TheVariants as verdict
 use Rattle.answers.specs.Shares.{percent_of, percent_number}
-use Rattle.hex.specs.Ascii.{ascii}
+use Rattle.hexdigits.specs.Ascii.{ascii}
 use Rattle.file.specs.Lines.{line_feed}
 use Rattle.wording.specs.Text.{decimal_by, decimal, share_text, verdict_text, begins_with_digit, read_from}
 use Rattle.wording.proofs.Figures.{figures}

@@ -29,8 +29,8 @@ use Rattle.keeping.specs.Append.{room_outcome, fit_outcome}
 use Rattle.keeping.proofs.Outcomes.{outcome_beside as told, number_accepted}
 use Rattle.timeline.specs.Opening.{open_outcome}
 use Rattle.timeline.specs.Appending.{append_outcome}
-use Rattle.hex.specs.Digits as hex
-use Rattle.hex.specs.Ascii.{ascii}
+use Rattle.hexdigits.specs.Digits as hex
+use Rattle.hexdigits.specs.Ascii.{ascii}
 use Rattle.frames.specs.Fields as fields
 use Rattle.frames.specs.Frames as frames
 use Rattle.frames.specs.declared.Frame.TheVariants.{S}

@@ -12,9 +12,9 @@ use lib.ListN.{length, drop, length-append}
 use Rattle.units.specs.Exactly.{ExactlyWhen}
 use Rattle.units.specs.declared.WideMillis.{WideMillis}
 use Rattle.units.specs.Limits.{largest_millis, clock_held}
-use Rattle.hex.specs.Ascii.{ascii}
-use Rattle.hex.specs.Digits as hex
-use Rattle.hex.specs.Digits.{are_digits, digits_of, digit_of}
+use Rattle.hexdigits.specs.Ascii.{ascii}
+use Rattle.hexdigits.specs.Digits as hex
+use Rattle.hexdigits.specs.Digits.{are_digits, digits_of, digit_of}
 use Rattle.window.specs.declared.Head.{Head}
 use Rattle.window.specs.declared.Reference.{Reference}
 use Rattle.window.specs.Limits.{head_held}

@@ -25,7 +25,7 @@ use Rattle.answers.specs.Judgement.{verdict_at, verdict_whole}
 use Rattle.answers.specs.Shares.{verdict_percent}
 use Rattle.lookups.specs.declared.Availability.TheVariants.{Ends, NeverEnds}
 use Rattle.lookups.specs.Available.{availability_in}
-use Rattle.hex.specs.Ascii.{ascii}
+use Rattle.hexdigits.specs.Ascii.{ascii}
 use Rattle.file.specs.Judging.{read_answer, read_table}
 use Rattle.writing.specs.declared.WriteAnswer.TheVariants.{Written}
 use Rattle.writing.specs.Writing.{write_answer, write_number}

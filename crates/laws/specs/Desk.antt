@@ -16,7 +16,7 @@ use Rattle.keeping.specs.declared.Outcome.TheVariants as outcome
 use Rattle.timeline.specs.Opening.{zero_record}
 use Rattle.frames.specs.declared.Frame.TheVariants.{Clock}
 use Rattle.frames.specs.Frames.{line_of}
-use Rattle.hex.specs.Ascii.{ascii}
+use Rattle.hexdigits.specs.Ascii.{ascii}
 use Rattle.file.specs.Lines.{line_feed}
 use Rattle.file.specs.Judging.{read_answer, read_table}
 use Rattle.frames.specs.Fields.{all_ones}

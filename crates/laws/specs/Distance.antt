@@ -22,7 +22,7 @@ use Rattle.timeline.specs.Appending.{append_answer}
 use Rattle.timeline.specs.Pair.{pair_answer}
 use Rattle.frames.specs.declared.SFields.{SFields}
 use Rattle.frames.specs.declared.Frame.TheVariants.{S}
-use Rattle.hex.specs.Ascii.{ascii}
+use Rattle.hexdigits.specs.Ascii.{ascii}
 use Rattle.file.specs.Judging.{read_answer}
 use Rattle.lookups.specs.declared.stamps.FullTick.TheVariants.{Nowhere}
 use Rattle.lookups.specs.Stamps.{full_tick_in}

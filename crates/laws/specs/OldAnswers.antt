@@ -8,8 +8,8 @@ use Rattle.std.specs.Int.Signed.{le_z}
 use Rattle.units.specs.Exactly.{ExactlyWhen}
 use Rattle.units.specs.declared.WideMillis.{WideMillis}
 use Rattle.units.specs.Limits.{largest_millis, tick_held, millis_held, timescale_held, number_held, clock_held}
-use Rattle.hex.specs.Ascii.{ascii}
-use Rattle.hex.specs.Digits.{are_digits}
+use Rattle.hexdigits.specs.Ascii.{ascii}
+use Rattle.hexdigits.specs.Digits.{are_digits}
 use Rattle.window.specs.declared.Head.{Head}
 use Rattle.window.specs.declared.Reference.{Reference}
 use Rattle.window.specs.Limits.{head_held, fields_of}

@@ -6,7 +6,7 @@ use Rattle.std.specs.Prelude.{◌≡◌}
 use Rattle.std.specs.Borrow.{Bor}
 use Rattle.units.proofs as units
 use Rattle.window.proofs as window
-use Rattle.hex.proofs as hex
+use Rattle.hexdigits.proofs as hex
 use Rattle.frames.proofs as frames
 use Rattle.runs.proofs as runs
 use Rattle.agreement.proofs as agreement

@@ -1,5 +1,7 @@
 // The calls that look one thing up: when the reference of a number is available, which runs touch a
 // span, and the full tick of a stamp. None of them changes a word.
+#![tactic(auto)]
+
 ghost use Rattle.std.specs.Prelude.{◌≡◌};
 ghost use Rattle.lookups.specs.Numbers.{availability_number, available_number, touching_number};
 
@@ -15,14 +17,14 @@ pub mod times;
 pub use stamps::FullTick;
 
 // From a point up to another, that one excluded; or from a point on.
-#[derive(Drop)]
+#[derive(Clone, Copy)]
 pub enum Availability {
     Ends(Grain, Grain),
     NeverEnds(Grain),
     Refused(Refusal),
 }
 
-#[derive(Drop)]
+#[derive(Clone, Copy)]
 pub enum AvailableAt {
     Yes,
     No,
@@ -30,14 +32,14 @@ pub enum AvailableAt {
 }
 
 // The kept reference of a number, if there is one.
-#[derive(Drop)]
+#[derive(Clone, Copy)]
 pub enum Numbered {
     Kept(Reference),
     Missing,
 }
 
 // The words from one up to another, that one excluded: both 0 if no run touches.
-#[derive(Drop)]
+#[derive(Clone, Copy)]
 pub enum Touching {
     Words(usize, usize),
     Refused(Refusal),

@@ -9,7 +9,7 @@ use units::{Full, Stamp, Tick};
 
 // The tick that the stamp names by the next tick; or none, where it would lie below 0 or over the
 // limit of a tick.
-#[derive(Drop)]
+#[derive(Clone, Copy)]
 pub enum FullTick {
     At(Tick),
     Nowhere,

@@ -38,10 +38,10 @@ use Rattle.answers.proofs.Judging.{all_covered, end_lacking, judge_nothing}
 use Rattle.file.specs.declared.ReadAnswer.{ReadAnswer}
 use Rattle.file.specs.Lines.{lines_from, rest_from, has_feed, first_line, behind_first}
 use Rattle.file.specs.Judging.{settled_reading, on_nothing, on_headed, on_open, take_head, take_first_s, take_s, take_end, take_line, take_lines, read_lines, read_outcome, read_answer, read_table}
-use Rattle.hex.specs.Digits.{between, is_digit, value_of, are_digits, number_of}
+use Rattle.hexdigits.specs.Digits.{between, is_digit, value_of, are_digits, number_of}
 use Rattle.frames.specs.Fields.{field_values}
 use Rattle.frames.specs.Frames.{frame_as, frame_of}
-use Rattle.hex.specs.Ascii.{ascii}
+use Rattle.hexdigits.specs.Ascii.{ascii}
 use Rattle.frames.specs.Worked.{fields_b}
 use Rattle.wording.specs.Text.{decimal_by, decimal, distance_text, share_text, refused_text, verdict_text, text_of}
 use Rattle.report.specs.declared.ClockLine.{ClockLine}

@@ -2,7 +2,7 @@
 -- lacks, at 0 nothing is needed; and its whole period cannot be asked. Case A with a second S line that leaves a gap. Paper: The file (the program); By
 -- hand, A and B; Refusal numbers, 4, 10, 16 and 19; document 02, W-205.
 use Rattle.std.specs.Prelude.{◌≡◌, List, [], ◌∷◌, ◌++◌, ℕ}
-use Rattle.hex.specs.Ascii.{ascii}
+use Rattle.hexdigits.specs.Ascii.{ascii}
 use Rattle.report.specs.Answer.{answer}
 
 abbrev pub head_line : List ℕ

@@ -1,5 +1,7 @@
 // The program's work, from the bytes of its input to the bytes of its answer: the clock line, the file,
 // the verdict, and the one line that tells it, whose text is that of `wording`.
+#![tactic(auto)]
+
 use agreement::Refusal;
 use units::Millis;
 
@@ -14,7 +16,7 @@ pub use running::run;
 
 // What the clock line asks: nothing yet, since it is not ended; a verdict at a clock, or of the whole
 // period; or the line is refused.
-#[derive(Drop)]
+#[derive(Clone, Copy)]
 pub enum ClockLine {
     Unended,
     At(Millis),
@@ -24,7 +26,7 @@ pub enum ClockLine {
 
 // How far the input is read: what its clock line asks, that line while it is not ended, and the reader
 // of the file.
-#[derive(Drop)]
+#[derive(Clone, Copy)]
 pub struct Desk {
     pub asked: ClockLine,
     pub line: file::LineSoFar,
@@ -32,7 +34,7 @@ pub struct Desk {
 }
 
 // Why the program stopped reading: its input has ended, its answer is settled, or a read failed.
-#[derive(Drop)]
+#[derive(Clone, Copy)]
 pub enum Stopped {
     Ended,
     Settled,
@@ -40,14 +42,14 @@ pub enum Stopped {
 }
 
 // The desk when the reads stopped, and why they did.
-#[derive(Drop)]
+#[derive(Clone, Copy)]
 pub struct Fed {
     pub desk: Desk,
     pub stopped: Stopped,
 }
 
 // The length of the answer's line, and why the reads stopped.
-#[derive(Drop)]
+#[derive(Clone, Copy)]
 pub struct Made {
     pub count: usize,
     pub stopped: Stopped,

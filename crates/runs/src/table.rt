@@ -11,7 +11,7 @@ use crate::Run;
 use units::{Span, Tick, WideTick};
 
 // Where a drop cuts the runs: so many whole runs go, and so many references of the run behind them.
-#[derive(Drop)]
+#[derive(Clone, Copy)]
 struct Cut {
     whole: usize,
     into: u64,

@@ -1,5 +1,7 @@
 // The calls that change a timeline: open, append, trim, and append then trim in one. Each takes any record and any table, and
 // answers an outcome with the record beside it.
+#![tactic(auto)]
+
 mod appending;
 mod opening;
 mod pairing;

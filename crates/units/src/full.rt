@@ -6,7 +6,7 @@ ghost use Rattle.units.specs.Full.{full_tick};
 use crate::standing::HALF;
 use crate::{Stamp, Tick};
 
-#[derive(Drop)]
+#[derive(Clone, Copy)]
 pub enum Full {
     At(Tick),
     Nowhere,

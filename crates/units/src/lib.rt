@@ -1,6 +1,8 @@
 // The units of a timeline, a type each, so that a tick is never taken for a millisecond or a grain.
 // A number from outside becomes a unit by its constructor, which refuses what lies beyond the limits.
 // A type holds any number of its width: the words of a record or a table are judged by `held`.
+#![tactic(auto)]
+
 ghost use Rattle.std.specs.Prelude.{◌≡◌, ◌*◌, ◌≤◌};
 ghost use Rattle.units.specs.Product.{Product};
 ghost use Rattle.units.specs.Limits.{largest_tick, largest_millis, largest_timescale, largest_span};
@@ -14,54 +16,54 @@ pub use full::Full;
 pub use standing::Standing;
 
 // A tick position within the limit: an offset, a start or an end of a reference.
-#[derive(Drop)]
+#[derive(Clone, Copy)]
 pub struct Tick(pub u64);
 
 // A tick of any 64 bits: a start that a caller gives, an edge of a span, a needed tick.
-#[derive(Drop)]
+#[derive(Clone, Copy)]
 pub struct WideTick(pub u64);
 
 // The low 32 bits of a tick, as some recorders send them.
-#[derive(Drop)]
+#[derive(Clone, Copy)]
 pub struct Stamp(pub u32);
 
 // Whole milliseconds: period start, duration, depth, clock.
-#[derive(Drop)]
+#[derive(Clone, Copy)]
 pub struct Millis(pub u64);
 
 // A clock of any 64 bits, as a caller gives it.
-#[derive(Drop)]
+#[derive(Clone, Copy)]
 pub struct WideMillis(pub u64);
 
 // Ticks a second.
-#[derive(Drop)]
+#[derive(Clone, Copy)]
 pub struct Timescale(pub u64);
 
 // A reference's duration in ticks.
-#[derive(Drop)]
+#[derive(Clone, Copy)]
 pub struct Span(pub u64);
 
 // How many ticks lie between a start and the next tick.
-#[derive(Drop)]
+#[derive(Clone, Copy)]
 pub struct Distance(pub u64);
 
 // The number of a reference.
-#[derive(Drop)]
+#[derive(Clone, Copy)]
 pub struct Number(pub u64);
 
 // A number of any 64 bits, as a caller gives it.
-#[derive(Drop)]
+#[derive(Clone, Copy)]
 pub struct WideNumber(pub u64);
 
 // A point in grains, signed: a tick has 1000 of them, a millisecond has timescale.
-#[derive(Drop)]
+#[derive(Clone, Copy)]
 pub struct Grain(pub i64);
 
 // An amount of grains: how far a point lies past another.
-#[derive(Drop)]
+#[derive(Clone, Copy)]
 pub struct Grains(pub u64);
 
-#[derive(Drop)]
+#[derive(Clone, Copy)]
 pub enum TickMade {
     Made(Tick),
     Refused,
@@ -96,7 +98,7 @@ impl Tick {
     }
 }
 
-#[derive(Drop)]
+#[derive(Clone, Copy)]
 pub enum MillisMade {
     Made(Millis),
     Refused,
@@ -132,7 +134,7 @@ impl Millis {
     }
 }
 
-#[derive(Drop)]
+#[derive(Clone, Copy)]
 pub enum TimescaleMade {
     Made(Timescale),
     Refused,
@@ -162,7 +164,7 @@ impl Timescale {
     }
 }
 
-#[derive(Drop)]
+#[derive(Clone, Copy)]
 pub enum SpanMade {
     Made(Span),
     Refused,
@@ -200,7 +202,7 @@ impl Span {
     }
 }
 
-#[derive(Drop)]
+#[derive(Clone, Copy)]
 pub enum NumberMade {
     Made(Number),
     Refused,
@@ -227,7 +229,7 @@ impl Number {
     }
 }
 
-#[derive(Drop)]
+#[derive(Clone, Copy)]
 pub enum GrainMade {
     Made(Grain),
     Refused,

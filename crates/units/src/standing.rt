@@ -5,7 +5,7 @@ ghost use Rattle.units.specs.Standing.{less32, stamp_standing, tick_standing};
 
 use crate::{Distance, Stamp, Tick, WideTick};
 
-#[derive(Drop)]
+#[derive(Clone, Copy)]
 pub enum Standing {
     Joins,
     Gap(Distance),

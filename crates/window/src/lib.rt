@@ -1,4 +1,6 @@
 // The rules of time: where ticks and milliseconds stand, and what a clock needs of them.
+#![tactic(auto)]
+
 ghost use Rattle.std.specs.Prelude.{◌≡◌};
 ghost use Rattle.window.specs.Limits.{head_held, fields_of, head_made};
 
@@ -11,7 +13,7 @@ mod edges;
 mod questions;
 
 // What a timeline is opened with. Every rule about time asks a head.
-#[derive(Drop)]
+#[derive(Clone, Copy)]
 pub struct Head {
     pub timescale: Timescale,
     pub offset: Tick,
@@ -23,7 +25,7 @@ pub struct Head {
 }
 
 // The fields of a head as they come, each any number of 64 bits: `Head::new` makes a head of them.
-#[derive(Drop)]
+#[derive(Clone, Copy)]
 pub struct HeadFields {
     pub timescale: u64,
     pub offset: u64,
@@ -34,28 +36,28 @@ pub struct HeadFields {
     pub update: u64,
 }
 
-#[derive(Drop)]
+#[derive(Clone, Copy)]
 pub enum HeadMade {
     Made(Head),
     Refused,
 }
 
 // One media segment: where it starts, and for how many ticks it lasts.
-#[derive(Drop)]
+#[derive(Clone, Copy)]
 pub struct Reference {
     pub start: Tick,
     pub span: Span,
 }
 
 // Which ends a clock has passed: every one, or those up to a tick.
-#[derive(Drop)]
+#[derive(Clone, Copy)]
 pub enum Passed {
     All,
     Upto(WideTick),
 }
 
 // Which ticks a window needs: none, or those from one up to another, that one excluded.
-#[derive(Drop)]
+#[derive(Clone, Copy)]
 pub enum Needed {
     Nothing,
     Ticks(WideTick, WideTick),

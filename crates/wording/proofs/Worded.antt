@@ -13,7 +13,7 @@ use Rattle.answers.specs.declared.Verdict.{Verdict}
 use Rattle.answers.specs.declared.Verdict.TheVariants as verdict
 use Rattle.answers.specs.declared.Percent.{Percent}
 use Rattle.answers.specs.Shares.{percent_of, percent_number}
-use Rattle.hex.specs.Ascii.{ascii}
+use Rattle.hexdigits.specs.Ascii.{ascii}
 use Rattle.wording.specs.declared.Reply.{Reply}
 use Rattle.wording.specs.declared.Reply.TheVariants.{Judged, Refused}
 use Rattle.wording.specs.Text.{decimal, distance_text, share_text, refused_text, verdict_text, text_of, over}

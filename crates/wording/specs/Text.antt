@@ -12,7 +12,7 @@ use Rattle.answers.specs.declared.Verdict.{Verdict}
 use Rattle.answers.specs.declared.Verdict.TheVariants as verdict
 use Rattle.answers.specs.Judgement.{verdict_at, verdict_whole}
 use Rattle.answers.specs.Shares.{percent_of, percent_number}
-use Rattle.hex.specs.Ascii.{ascii}
+use Rattle.hexdigits.specs.Ascii.{ascii}
 use Rattle.wording.specs.declared.Reply.{Reply}
 use Rattle.wording.specs.declared.Reply.TheVariants.{Judged, Refused}
 

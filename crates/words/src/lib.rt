@@ -1,5 +1,7 @@
 // A record and the answers as words, as C sees them: the record that 12 words mean, whether lengths are
 // right, and what each answer puts into the caller's `out`. Who calls an inner one has tested the lengths.
+#![tactic(auto)]
+
 mod changing;
 mod filing;
 mod judging;

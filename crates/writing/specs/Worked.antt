@@ -1,7 +1,7 @@
 -- The whole file of case B after its trim at 18,000: it is the file of what is kept then, byte for byte. (The file; By hand, B)
 use Rattle.std.specs.Prelude.{◌≡◌, refl, [], ◌∷◌, ◌++◌}
-use Rattle.hex.specs.Digits.{digits_of, digit_of}
-use Rattle.hex.specs.Ascii.{ascii}
+use Rattle.hexdigits.specs.Digits.{digits_of, digit_of}
+use Rattle.hexdigits.specs.Ascii.{ascii}
 use Rattle.window.specs.Limits.{head_of}
 use Rattle.runs.specs.Words.{repeated}
 use Rattle.runs.specs.Encoding.{push, encode}

@@ -1,4 +1,6 @@
 // Writing a file: the head, an S line for each used run, the end, each into the rest of the output.
+#![tactic(auto)]
+
 ghost use Rattle.std.specs.Prelude.{◌≡◌, true, cond, ◌++◌, ◌+◌, ◌*◌, ◌≤◌, ◌<◌, ◌^◌, eqb, length, drop};
 ghost use Rattle.units.specs.Limits.{largest_number};
 ghost use Rattle.window.specs.Limits.{fields_of};
@@ -14,7 +16,7 @@ use frames::{Frame, HeadLine, SFields};
 use units::{Number, WideTick};
 
 // The length written, or why nothing was.
-#[derive(Drop)]
+#[derive(Clone, Copy)]
 pub enum WriteAnswer {
     Written(usize),
     Refused(Refusal),

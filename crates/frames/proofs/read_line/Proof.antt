@@ -7,7 +7,7 @@ use native.Mathlib.Omega.{arith}
 use borrow.Author.Rules.{rules}
 use borrow.Author.Tests.{not-true, not-false, eq-eqb, ne_eqb}
 use lib.ListN.{length, take}
-use Rattle.hex.specs.Digits.{are_digits, number_of}
+use Rattle.hexdigits.specs.Digits.{are_digits, number_of}
 use Rattle.frames.specs.Frames.{line_length, kind_at, frame_as, frame_of}
 use Rattle.frames.specs.declared.Frame.{Frame}
 use Rattle.frames.specs.declared.Frame.TheVariants.{Bad}

@@ -10,8 +10,8 @@ use borrow.Author.Rules.{rules}
 use lib.ListN.{length, get_or, take, drop, set, length-append, drop_of_length-le}
 use lib.Seq.{drop-drop, take_at, set_split, length-take-le}
 use borrow.Rule.Slice.PartMut.{put_mid, same_len_mid, mid_len, drop_put}
-use Rattle.hex.specs.Digits.{digits_of}
-use Rattle.hex.proofs.Widths.{length_digits}
+use Rattle.hexdigits.specs.Digits.{digits_of}
+use Rattle.hexdigits.proofs.Widths.{length_digits}
 use Rattle.frames.specs.Fields.{digit_count, field_digits}
 use Rattle.frames.proofs.Places.{Place, place_begun, place_turn, place_done, double_fits, end_fits, field_within, from_here}
 use Rattle.frames.proofs.fields.write_fields.Statement.{statement}

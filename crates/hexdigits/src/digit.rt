@@ -1,6 +1,6 @@
 // One digit: a byte and what it means.
 ghost use Rattle.std.specs.Prelude.{◌≡◌, ◌<◌};
-ghost use Rattle.hex.specs.Digits.{is_digit, value_of, digit_of};
+ghost use Rattle.hexdigits.specs.Digits.{is_digit, value_of, digit_of};
 
 // '0' to '9' or 'a' to 'f'.
 pub(crate) fn is_digit(b: u8) -> bool

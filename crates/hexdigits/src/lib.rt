@@ -1,6 +1,8 @@
 // Lower-case hexadecimal digits, on lent parts of slices.
+#![tactic(auto)]
+
 ghost use Rattle.std.specs.Prelude.{◌≡◌, ◌≤◌, length};
-ghost use Rattle.hex.specs.Digits.{are_digits, number_of, digits_of};
+ghost use Rattle.hexdigits.specs.Digits.{are_digits, number_of, digits_of};
 
 mod digit;
 

@@ -7,8 +7,8 @@ use native.Mathlib.Nat.{pow-succ', one-le-pow, mod-lt, mod-one, mod-eq_of_lt, di
 use native.Mathlib.Omega.{arith}
 use lib.Arith.{mod-mul, digits_lt, digits_div, digits_mod}
 use lib.ListN.{length, get_or}
-use Rattle.hex.specs.Digits.{is_digit, value_of, digit_of, are_digits, number_of, digits_of}
-use Rattle.hex.proofs.Single.{value_below, digit_of_value, value_of_digit, digit_is_digit}
+use Rattle.hexdigits.specs.Digits.{is_digit, value_of, digit_of, are_digits, number_of, digits_of}
+use Rattle.hexdigits.proofs.Single.{value_below, digit_of_value, value_of_digit, digit_is_digit}
 
 positive : (n : ℕ) → 0 < 16 ^ n
 positive n = one-le-pow n 16 (omega arith)

@@ -5,7 +5,7 @@ use Prim.Native.Nat.{ℕ, ◌+◌, ◌-◌, ◌≤◌, ◌<◌}
 use native.Mathlib.Omega.{arith}
 use lib.Dec.{leb, ltb}
 use borrow.Author.Tests.{lt-ltb, le-ltb, le-leb, lt-leb, ltb-true, ltb-false, leb-true}
-use Rattle.hex.specs.Digits.{between, is_decimal, is_letter, is_digit, value_of, digit_of}
+use Rattle.hexdigits.specs.Digits.{between, is_decimal, is_letter, is_digit, value_of, digit_of}
 
 module _ (low high b : ℕ) where
   pub between_from : low ≤ b → between low high b ≡ leb b high
