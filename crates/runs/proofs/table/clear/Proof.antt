@@ -8,10 +8,10 @@ use Rattle.runs.proofs.Moving.{word_cleared, words_cleared}
 use Rattle.runs.proofs.table.clear.Statement.{statement}
 use Rattle.runs.proofs.table.clear.Tie as tie
 
-abbrev invariant-loop : tie.invariant-loop
+abbrev invariant-loop : tie.invariant-loop-i
 invariant-loop words₀ i₀ words i = (i ≤ length words₀) × (length words ≡ length words₀) × (words ≡ replicate i 0 ++ drop i words₀)
 
-abbrev decreases-loop : tie.decreases-loop
+abbrev decreases-loop : tie.decreases-loop-i
 decreases-loop words₀ i₀ words i = length words₀ - i
 
 pub clear_spec : {M : Type 1} → statement M

@@ -8,10 +8,10 @@ use Rattle.runs.proofs.Moving.{word_moved, words_moved}
 use Rattle.runs.proofs.table.move_down.Statement.{statement}
 use Rattle.runs.proofs.table.move_down.Tie as tie
 
-abbrev invariant-loop : tie.invariant-loop
+abbrev invariant-loop : tie.invariant-loop-i
 invariant-loop table₀ from words i₀ table i = (i ≤ words) × (length table ≡ length table₀) × (table ≡ take i (drop from table₀) ++ drop i table₀)
 
-abbrev decreases-loop : tie.decreases-loop
+abbrev decreases-loop : tie.decreases-loop-i
 decreases-loop table₀ from words i₀ table i = words - i
 
 pub move_down_spec : {M : Type 1} → statement M

@@ -9,11 +9,11 @@ use Rattle.runs.proofs.Walking.{words_fit, place_there, span_lasts, passed_fits,
 use Rattle.runs.proofs.table.passed_upto.Statement.{statement}
 use Rattle.runs.proofs.table.passed_upto.Tie as tie
 
-abbrev invariant-loop : tie.invariant-loop
+abbrev invariant-loop : tie.invariant-loop-whole
 invariant-loop table used t passed₀ whole₀ passed whole =
     (whole ≤ used) × (passed + passed_upto t.0 (references_of (drop whole (runs_of used table))) ≡ passed_upto t.0 (kept_in used table))
 
-abbrev decreases-loop : tie.decreases-loop
+abbrev decreases-loop : tie.decreases-loop-whole
 decreases-loop table used t passed₀ whole₀ passed whole = used - whole
 
 pub passed_upto_spec : {M : Type 1} → statement M

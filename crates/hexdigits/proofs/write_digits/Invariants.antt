@@ -1,0 +1,18 @@
+-- `write_digits` meets its contract. The loop's invariant: the digits of what is left of the number, before those written,
+-- are the digits of the number. The measure is how many places are left.
+use mathlib.Core.Path.{◌≡◌, refl, sym, ◌∙◌, ap, ap₂}
+use mathlib.Core.List.{List, [], ◌∷◌, ◌++◌, append-nil}
+use Prim.Native.Nat.{ℕ, suc, ◌+◌, ◌-◌, ◌/◌, ◌%◌, ◌≤◌, ◌<◌}
+use native.Mathlib.Omega.{arith}
+use borrow.Author.Rules.{rules}
+use lib.ListN.{length, drop, set, length-set}
+use lib.Seq.{append_snoc, drop-cons, drop-length, drop-set-lt, get_or-set_same, lt-length-set}
+use Rattle.hexdigits.specs.Digits.{digit_of, digits_of}
+use Rattle.hexdigits.proofs.Widths.{digits_last}
+use Rattle.hexdigits.proofs.write_digits.Given as goal
+
+abbrev pub invariant-loop-done : goal.invariant-loop-done
+invariant-loop-done l = Written l.initial.s l.x l.s l.rest l.done
+
+abbrev pub decreases-loop-done : goal.decreases-loop-done
+decreases-loop-done l = length l.initial.s - l.done
