@@ -10,14 +10,10 @@ use lib.ListN.{length, get_or, drop, drop_of_length-le}
 use lib.Seq.{drop-cons}
 use Rattle.hexdigits.specs.Digits.{value_of, number_of}
 use Rattle.hexdigits.proofs.Single.{value_below}
+use Rattle.hexdigits.proofs.number.Invariants.{Read}
 use Rattle.hexdigits.proofs.number.Goals as goal
 
 -- n is what the digits before i mean
-
-record Read (s : List ℕ) (n i : ℕ) : Type 0 where
-  within : i ≤ length s
-  small : n < 16 ^ i
-  whole : n * 16 ^ length (drop i s) + number_of (drop i s) ≡ number_of s
 
 begun : (s : List ℕ) → Read s 0 0
 begun s = record { within = omega arith; small = omega arith; whole = rw (zero-mul (16 ^ length s)) (zero-add (number_of s)) }

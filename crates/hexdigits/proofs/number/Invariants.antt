@@ -14,6 +14,11 @@ use Rattle.hexdigits.specs.Digits.{value_of, number_of}
 use Rattle.hexdigits.proofs.Single.{value_below}
 use Rattle.hexdigits.proofs.number.Given as goal
 
+pub record Read (s : List ℕ) (n i : ℕ) : Type 0 where
+  pub within : i ≤ length s
+  pub small : n < 16 ^ i
+  pub whole : n * 16 ^ length (drop i s) + number_of (drop i s) ≡ number_of s
+
 abbrev pub invariant-loop-i : goal.invariant-loop-i
 invariant-loop-i l = Read l.s l.n l.i
 

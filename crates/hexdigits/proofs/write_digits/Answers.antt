@@ -7,14 +7,10 @@ use lib.ListN.{length, drop, set, length-set}
 use lib.Seq.{append_snoc, drop-cons, drop-length, drop-set-lt, get_or-set_same, lt-length-set}
 use Rattle.hexdigits.specs.Digits.{digit_of, digits_of}
 use Rattle.hexdigits.proofs.Widths.{digits_last}
+use Rattle.hexdigits.proofs.write_digits.Invariants.{Written}
 use Rattle.hexdigits.proofs.write_digits.Goals as goal
 
 -- of the digits of x over s₀ the last ones are written, and rest is what those before them are to mean
-
-record Written (s₀ : List ℕ) (x : ℕ) (s : List ℕ) (rest done : ℕ) : Type 0 where
-  within : done ≤ length s₀
-  long : length s ≡ length s₀
-  whole : digits_of (length s - done) rest ++ drop (length s - done) s ≡ digits_of (length s₀) x
 
 begun : (s : List ℕ) (x : ℕ) → Written s x s x 0
 begun s x =

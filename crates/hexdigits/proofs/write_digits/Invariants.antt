@@ -11,6 +11,11 @@ use Rattle.hexdigits.specs.Digits.{digit_of, digits_of}
 use Rattle.hexdigits.proofs.Widths.{digits_last}
 use Rattle.hexdigits.proofs.write_digits.Given as goal
 
+pub record Written (s₀ : List ℕ) (x : ℕ) (s : List ℕ) (rest done : ℕ) : Type 0 where
+  pub within : done ≤ length s₀
+  pub long : length s ≡ length s₀
+  pub whole : digits_of (length s - done) rest ++ drop (length s - done) s ≡ digits_of (length s₀) x
+
 abbrev pub invariant-loop-done : goal.invariant-loop-done
 invariant-loop-done l = Written l.initial.s l.x l.s l.rest l.done
 

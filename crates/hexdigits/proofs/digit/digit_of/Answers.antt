@@ -5,10 +5,10 @@ use native.Mathlib.Omega.{arith}
 use Rattle.hexdigits.specs.Digits.{digit_of}
 use Rattle.hexdigits.proofs.digit.digit_of.Goals as goal
 
-unfolding digit_of
-
-unfolding digit_of
-
 pub returns-then-v-lt10 : goal.returns-then-v-lt10
+unfolding digit_of
+returns-then-v-lt10 c = simp (lt-ltb c.args.v 10 (omega arith))
 
 pub returns : goal.returns
+unfolding digit_of
+returns c = simp (le-ltb c.args.v 10 (omega arith)) (omega arith)
