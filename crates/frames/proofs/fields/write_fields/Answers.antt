@@ -1,5 +1,3 @@
--- `fields::write_fields` meets its contract. The loop's invariant: what is written, before the digits of the fields to come,
--- is the line, and what lies behind is as it came. The measure is what is left of the row.
 use mathlib.Core.Path.{◌≡◌, refl, sym, ◌∙◌, ap, ap₂}
 use mathlib.Core.List.{List, ◌∷◌, ◌++◌, append-nil, append_assoc}
 use Prim.Native.Nat.{ℕ, ◌+◌, ◌-◌, ◌*◌, ◌≤◌, ◌<◌}
@@ -14,20 +12,14 @@ use Rattle.hexdigits.specs.Digits.{digits_of}
 use Rattle.hexdigits.proofs.Widths.{length_digits}
 use Rattle.frames.specs.Fields.{digit_count, field_digits}
 use Rattle.frames.proofs.Places.{Place, place_begun, place_turn, place_done, double_fits, end_fits, field_within, from_here}
-use Rattle.frames.proofs.fields.write_fields.Statement.{statement}
-use Rattle.frames.proofs.fields.write_fields.Tie as tie
-
-record Written (out₀ ws vs out : List ℕ) (at i : ℕ) : Type 0 where
-  place : Place ws at i
-  long : length out ≡ length out₀
-  room : digit_count ws ≤ length out₀
-  front : take at out ++ field_digits (drop i ws) (drop i vs) ≡ field_digits ws vs
-  behind : drop at out ≡ drop at out₀
+use Rattle.frames.proofs.fields.write_fields.Invariants.{Written}
+use Rattle.frames.proofs.fields.write_fields.Goals as goal
 
 begun : (out ws vs : List ℕ) → digit_count ws < length out → Written out ws vs out 0 0
 begun out ws vs h = record { place = place_begun ws; long = refl; room = omega arith; front = refl; behind = refl }
 
 -- what lies before the end of a part that has come back
+
 take_through : (a e : ℕ) (xs ys : List ℕ) → a ≤ e → e ≤ length xs → length ys ≡ e - a → take e (put_mid a (e - a) xs ys) ≡ take a xs ++ ys
 take_through a e xs ys h g l =
     ap (take e) (sym (append_assoc (take a xs) ys (drop (e - a) (drop a xs)))) ∙
@@ -82,33 +74,20 @@ module _ (out₀ ws vs out : List ℕ) (at i : ℕ) (w : Written out₀ ws vs ou
       still_behind 1 ∙
       ap (λ (m : ℕ). drop m out₀) (length_done h))
 
-abbrev invariant-loop : tie.invariant-loop
-invariant-loop out₀ widths values at₀ i₀ out at i = Written out₀ widths values out at i
+pub loop-i-init : goal.loop-i-init
+loop-i-init c = search (rules, begun)
 
-abbrev decreases-loop : tie.decreases-loop
-decreases-loop out₀ widths values at₀ i₀ out at i = length widths - i
+pub overflow_mul-end : goal.overflow_mul-end
+overflow_mul-end c = search (rules, double_fits)
 
-pub write_fields_spec : {M : Type 1} → statement M
-write_fields_spec =
-    tie.close
-    (tie.spec
-    invariant-loop
-    decreases-loop
-    (λ c. search (rules, begun))
-    (λ c. search rules)
-    (λ c. search rules)
-    (λ c. search (rules, double_fits))
-    (λ c. search (rules, end_fits))
-    (λ c. search rules)
-    (λ c. search rules)
-    (λ c. search (rules, part_within))
-    (λ c. search rules)
-    (λ c. search rules)
-    (λ c κs. search rules)
-    (λ c. search rules)
-    (λ c. search rules)
-    (λ c. search (rules, turn))
-    (λ c. search rules)
-    (λ c. search rules)
-    (λ c. search rules)
-    (λ c. search (rules, length_done, done)))
+pub overflow_add-end : goal.overflow_add-end
+overflow_add-end c = search (rules, end_fits)
+
+pub slice_bounds-write_digits-end : goal.slice_bounds-write_digits-end
+slice_bounds-write_digits-end c = search (rules, part_within)
+
+pub loop-i-preserved : goal.loop-i-preserved
+loop-i-preserved c = search (rules, turn)
+
+pub returns : goal.returns
+returns c = search (rules, length_done, done)

@@ -1,5 +1,3 @@
--- `fields::read_fields` meets its contract. The loop's invariant: the values read, before those that the rest of the row
--- reads from the rest of the line, are those of the whole line. The measure is what is left of the row.
 use mathlib.Core.Path.{◌≡◌, refl, sym, ◌∙◌, ap, ap₂}
 use mathlib.Core.List.{List, ◌∷◌, ◌++◌, append-nil}
 use Prim.Native.Nat.{ℕ, ◌+◌, ◌-◌, ◌*◌, ◌≤◌, ◌<◌}
@@ -12,14 +10,8 @@ use lib.Seq.{append_snoc, drop-drop, take-suc-set, take_all}
 use Rattle.hexdigits.specs.Digits.{number_of}
 use Rattle.frames.specs.Fields.{field_values, Narrow}
 use Rattle.frames.proofs.Places.{Place, place_begun, place_turn, double_fits, end_fits, end_within, from_here}
-use Rattle.frames.proofs.fields.read_fields.Statement.{statement}
-use Rattle.frames.proofs.fields.read_fields.Tie as tie
-
-record Read (line ws vs : List ℕ) (at i : ℕ) : Type 0 where
-  place : Place ws at i
-  long : length vs ≡ length ws
-  narrow : Narrow (drop i ws)
-  whole : take i vs ++ field_values (drop i ws) (drop at line) ≡ field_values ws line
+use Rattle.frames.proofs.fields.read_fields.Invariants.{Read}
+use Rattle.frames.proofs.fields.read_fields.Goals as goal
 
 begun : (line ws vs : List ℕ) → Narrow ws → length vs ≡ length ws → Read line ws vs 0 0
 begun line ws vs n l = record { place = place_begun ws; long = l; narrow = n; whole = refl }
@@ -59,31 +51,23 @@ module _ (line ws vs : List ℕ) (at i : ℕ) (r : Read line ws vs at i) where
       sym (append-nil (take i vs)) ∙
       (rw (drop_of_length-le ws h) at r.whole)
 
-abbrev invariant-loop : tie.invariant-loop
-invariant-loop line widths values₀ at₀ i₀ values at i = Read line widths values at i
+pub loop-i-init : goal.loop-i-init
+loop-i-init c = search (rules, begun)
 
-abbrev decreases-loop : tie.decreases-loop
-decreases-loop line widths values₀ at₀ i₀ values at i = length widths - i
+pub overflow_mul-end : goal.overflow_mul-end
+overflow_mul-end c = search (rules, double_fits)
 
-pub read_fields_spec : {M : Type 1} → statement M
-read_fields_spec =
-    tie.close
-    (tie.spec
-    invariant-loop
-    decreases-loop
-    (λ c. search (rules, begun))
-    (λ c. search rules)
-    (λ c. search rules)
-    (λ c. search (rules, double_fits))
-    (λ c. search (rules, end_fits))
-    (λ c. search rules)
-    (λ c. search rules)
-    (λ c. search (rules, end_within))
-    (λ c κs. search (rules, few_digits))
-    (λ c. search rules)
-    (λ c. search rules)
-    (λ c. search rules)
-    (λ c. search rules)
-    (λ c. search (rules, turn))
-    (λ c. search rules)
-    (λ c. search (rules, done)))
+pub overflow_add-end : goal.overflow_add-end
+overflow_add-end c = search (rules, end_fits)
+
+pub slice_bounds-number-end : goal.slice_bounds-number-end
+slice_bounds-number-end c = search (rules, end_within)
+
+pub number-requires : goal.number-requires
+number-requires c = search (rules, few_digits)
+
+pub loop-i-preserved : goal.loop-i-preserved
+loop-i-preserved c = search (rules, turn)
+
+pub returns : goal.returns
+returns c = search (rules, done)
