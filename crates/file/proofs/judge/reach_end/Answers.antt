@@ -1,0 +1,20 @@
+-- `reach_end` meets its contract, test by test.
+use borrow.Author.Rules.{rules}
+use Rattle.file.proofs.SLines.{reach_unknown, before_asks, reach_past, least_asks, joined_asks, few_lines, reach_appended}
+use mathlib.Core.Bool.{not}
+use mathlib.Core.Path.{ap}
+use Rattle.file.proofs.judge.reach_end.Goals as goal
+
+pub returns-then-reading-eq0 : goal.returns-then-reading-eq0
+returns-then-reading-eq0 c = search (rules, reach_unknown)
+
+pub before_end-requires : goal.before_end-requires
+before_end-requires c =
+    before_asks c.args.reading _ c.args.span c.requires c.if-reading-eq0.false
+
+pub returns-then-not-before_end : goal.returns-then-not-before_end
+returns-then-not-before_end c = search (rules, reach_past)
+
+pub settle-requires : goal.settle-requires
+settle-requires c =
+    few_lines c.args.reading _ c.args.span c.requires

@@ -1,0 +1,11 @@
+-- `add` meets its contract. The loop's invariant: so much of the part is added. The measure is what is left to add.
+use Prim.Native.Nat.{◌-◌}
+use borrow.Author.Rules.{rules}
+use Rattle.file.proofs.SoFar.{Added, room_left, added_none, added_place, added_part, added_more, added_all}
+use Rattle.file.proofs.lines.add.Given as goal
+
+abbrev pub invariant-loop-i : goal.invariant-loop-i
+invariant-loop-i l = Added l.initial.bytes l.initial.count l.part l.most l.bytes l.count l.i
+
+abbrev pub decreases-loop-i : goal.decreases-loop-i
+decreases-loop-i l = l.most - l.i
