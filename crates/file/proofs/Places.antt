@@ -4,7 +4,6 @@ use mathlib.Core.Bool.{true}
 use mathlib.Core.List.{List, [], ◌∷◌}
 use Prim.Native.Nat.{ℕ, ◌+◌, ◌^◌, ◌≤◌}
 use native.Mathlib.Omega.{arith}
-use types.Run.{OneOf, miss}
 use denote.Enum.Declared.{tag_of}
 use Rattle.units.specs.declared.standing.Standing.{Standing}
 use Rattle.units.specs.Limits.{largest_span}
@@ -27,35 +26,35 @@ use Rattle.file.specs.Sound.{Running, Begins, Narrow, Sound}
 -- ---- a frame that may not stand at the stage
 
 module _ (r : Reading) (ws : List ℕ) where
-  not_head : (f : Frame) → OneOf (1 ∷ 2 ∷ 3 ∷ 4 ∷ []) (tag_of the_type f) → refused (misplaced f) r ws ≡ on_nothing r ws f
+  not_head : (f : Frame) → ((h : HeadLine) → f ≡ HeadFrame h → ⊥) → refused (misplaced f) r ws ≡ on_nothing r ws f
   unfolding on_nothing
-  not_head (HeadFrame h) k = absurd (miss (1 ∷ 2 ∷ 3 ∷ 4 ∷ []) 0 tt k)
+  not_head (HeadFrame h) k = absurd (k h refl)
   not_head (S s) k = refl
   not_head (End n) k = refl
   not_head (Clock c) k = refl
   not_head Bad k = refl
 
-  not_s : (f : Frame) → OneOf (0 ∷ 2 ∷ 3 ∷ 4 ∷ []) (tag_of the_type f) → refused (misplaced f) r ws ≡ on_headed r ws f
+  not_s : (f : Frame) → ((s : SFields) → f ≡ S s → ⊥) → refused (misplaced f) r ws ≡ on_headed r ws f
   unfolding on_headed
   not_s (HeadFrame h) k = refl
-  not_s (S s) k = absurd (miss (0 ∷ 2 ∷ 3 ∷ 4 ∷ []) 1 tt k)
+  not_s (S s) k = absurd (k s refl)
   not_s (End n) k = refl
   not_s (Clock c) k = refl
   not_s Bad k = refl
 
-  not_s_end : (f : Frame) → OneOf (0 ∷ 3 ∷ 4 ∷ []) (tag_of the_type f) → refused (misplaced f) r ws ≡ on_open r ws f
+  not_s_end : (f : Frame) → ((s : SFields) → f ≡ S s → ⊥) → ((n : ℕ) → f ≡ End n → ⊥) → refused (misplaced f) r ws ≡ on_open r ws f
   unfolding on_open
-  not_s_end (HeadFrame h) k = refl
-  not_s_end (S s) k = absurd (miss (0 ∷ 3 ∷ 4 ∷ []) 1 tt k)
-  not_s_end (End n) k = absurd (miss (0 ∷ 3 ∷ 4 ∷ []) 2 tt k)
-  not_s_end (Clock c) k = refl
-  not_s_end Bad k = refl
+  not_s_end (HeadFrame h) k l = refl
+  not_s_end (S s) k l = absurd (k s refl)
+  not_s_end (End n) k l = absurd (l n refl)
+  not_s_end (Clock c) k l = refl
+  not_s_end Bad k l = refl
 
-  not_end : (f : Frame) → OneOf (0 ∷ 1 ∷ 3 ∷ 4 ∷ []) (tag_of the_type f) → refused (misplaced f) r ws ≡ on_filled r ws f
+  not_end : (f : Frame) → ((n : ℕ) → f ≡ End n → ⊥) → refused (misplaced f) r ws ≡ on_filled r ws f
   unfolding on_filled
   not_end (HeadFrame h) k = refl
   not_end (S s) k = refl
-  not_end (End n) k = absurd (miss (0 ∷ 1 ∷ 3 ∷ 4 ∷ []) 2 tt k)
+  not_end (End n) k = absurd (k n refl)
   not_end (Clock c) k = refl
   not_end Bad k = refl
 
@@ -63,16 +62,16 @@ module _ (r : Reading) (f : Frame) (why : Refusal) (e : why ≡ misplaced f) (x 
   refused_so : (ws : List ℕ) → ◌≡◌ {A = File} (record { reading = x; words = ws }) (refused (misplaced f) r ws)
   refused_so ws = ap (λ y. record { reading = y; words = ws }) k ∙ ap (λ y. refused y r ws) e
 
-  pub nothing_misplaced : OneOf (1 ∷ 2 ∷ 3 ∷ 4 ∷ []) (tag_of the_type f) → (ws : List ℕ) → ◌≡◌ {A = File} (record { reading = x; words = ws }) (on_nothing r ws f)
+  pub nothing_misplaced : ((h : HeadLine) → f ≡ HeadFrame h → ⊥) → (ws : List ℕ) → ◌≡◌ {A = File} (record { reading = x; words = ws }) (on_nothing r ws f)
   nothing_misplaced o ws = refused_so ws ∙ not_head r ws f o
 
-  pub headed_misplaced : (ws : List ℕ) → OneOf (0 ∷ 2 ∷ 3 ∷ 4 ∷ []) (tag_of the_type f) → ◌≡◌ {A = File} (record { reading = x; words = ws }) (on_headed r ws f)
+  pub headed_misplaced : (ws : List ℕ) → ((s : SFields) → f ≡ S s → ⊥) → ◌≡◌ {A = File} (record { reading = x; words = ws }) (on_headed r ws f)
   headed_misplaced ws o = refused_so ws ∙ not_s r ws f o
 
-  pub open_misplaced : (ws : List ℕ) → OneOf (0 ∷ 3 ∷ 4 ∷ []) (tag_of the_type f) → ◌≡◌ {A = File} (record { reading = x; words = ws }) (on_open r ws f)
-  open_misplaced ws o = refused_so ws ∙ not_s_end r ws f o
+  pub open_misplaced : (ws : List ℕ) → ((s : SFields) → f ≡ S s → ⊥) → ((n : ℕ) → f ≡ End n → ⊥) → ◌≡◌ {A = File} (record { reading = x; words = ws }) (on_open r ws f)
+  open_misplaced ws o p = refused_so ws ∙ not_s_end r ws f o p
 
-  pub filled_misplaced : OneOf (0 ∷ 1 ∷ 3 ∷ 4 ∷ []) (tag_of the_type f) → (ws : List ℕ) → ◌≡◌ {A = File} (record { reading = x; words = ws }) (on_filled r ws f)
+  pub filled_misplaced : ((n : ℕ) → f ≡ End n → ⊥) → (ws : List ℕ) → ◌≡◌ {A = File} (record { reading = x; words = ws }) (on_filled r ws f)
   filled_misplaced o ws = refused_so ws ∙ not_end r ws f o
 
 -- ---- a frame that may

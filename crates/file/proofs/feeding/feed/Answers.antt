@@ -28,7 +28,7 @@ loop-at-smaller-then-end-piece c = search (rules, ended_less)
 
 pub loop-at-preserved-then-end-piece : goal.loop-at-preserved-then-end-piece
 loop-at-preserved-then-end-piece c =
-    turn_ended _ _ _ c.line_end.ensures _ _ _ _ _ c.loop-at.invariant _ c.more-line.ensures c.if-end-piece.true _ c.none-line.ensures _ _ c.take_so_far-reading.auto.1.0 c.take_so_far-reading.ensures
+    turn_ended _ _ _ c.line_end.ensures _ _ _ _ _ c.loop-at.invariant _ c.more-line.ensures c.if-end-piece.true _ c.none-line.ensures _ _ (search rules) c.take_so_far-reading.ensures
 
 pub loop-at-smaller : goal.loop-at-smaller
 loop-at-smaller c = search (rules, unended_less)

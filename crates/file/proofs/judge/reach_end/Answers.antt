@@ -15,6 +15,20 @@ before_end-requires c =
 pub returns-then-not-before_end : goal.returns-then-not-before_end
 returns-then-not-before_end c = search (rules, reach_past)
 
+pub least_count-count-requires : goal.least_count-count-requires
+least_count-count-requires c =
+    least_asks c.args.reading _ c.args.span c.requires c.if-reading-eq0.false _ c.before_end.ensures (ap not c.if-not-before_end.false)
+
+pub append_joined-changed-requires : goal.append_joined-changed-requires
+append_joined-changed-requires c =
+    joined_asks c.args.reading _ c.args.span c.requires c.if-reading-eq0.false _ c.before_end.ensures (ap not c.if-not-before_end.false)
+    _ c.least_count-count.ensures
+
 pub settle-requires : goal.settle-requires
 settle-requires c =
     few_lines c.args.reading _ c.args.span c.requires
+
+pub returns : goal.returns
+returns c =
+    reach_appended c.args.reading _ c.args.span c.requires c.if-reading-eq0.false _ c.before_end.ensures (ap not c.if-not-before_end.false)
+    _ c.least_count-count.ensures _ c.append_joined-changed.ensures.value _ c.append_joined-changed.ensures.table_after _ c.settle.ensures
