@@ -7,15 +7,7 @@ use lookups::{Availability, AvailableAt, Touching};
 use std::io;
 use units::{WideMillis, WideNumber, WideTick};
 
-fn row(
-    out: &impl Print,
-    number: u64,
-    a: u64,
-    b: u64,
-    c: u64,
-    d: u64,
-    e: u64,
-) -> io::Result<()> {
+fn row(out: &impl Print, number: u64, a: u64, b: u64, c: u64, d: u64, e: u64) -> io::Result<()> {
     put(out, number)?;
     print!(out; " |")?;
     put(out, a)?;
@@ -56,7 +48,11 @@ fn put_touching(out: &impl Print, touching: Touching, words: usize) -> io::Resul
 
 fn touch(out: &impl Print, rec: Record, table: &[u64], a: WideTick, b: WideTick) -> io::Result<()> {
     let part = lookups::spans::touching(rec, table, a, b);
-    put_touching(out, lookups::spans::touching_words(rec, table, a, b), part.len())
+    put_touching(
+        out,
+        lookups::spans::touching_words(rec, table, a, b),
+        part.len(),
+    )
 }
 
 fn put_available(out: &impl Print, available: AvailableAt) -> io::Result<()> {
@@ -70,13 +66,23 @@ fn put_available(out: &impl Print, available: AvailableAt) -> io::Result<()> {
 
 // Verdict at a clock, of the whole period, availability of a number, the runs that touch a span, and
 // whether a number is available at a clock.
-pub(crate) fn look(out: &impl Print, name: u8, rec: Record, table: &[u64], a: u64, b: u64) -> io::Result<()> {
+pub(crate) fn look(
+    out: &impl Print,
+    name: u8,
+    rec: Record,
+    table: &[u64],
+    a: u64,
+    b: u64,
+) -> io::Result<()> {
     match name {
         b'v' => put_verdict(out, answers::verdicts::verdict(rec, table, WideMillis(a))),
         b'w' => put_verdict(out, answers::verdicts::verdict_whole(rec, table)),
         b'n' => put_availability(out, lookups::times::availability(rec, table, WideNumber(a))),
         b'r' => touch(out, rec, table, WideTick(a), WideTick(b)),
-        _ => put_available(out, lookups::times::available_at(rec, table, WideNumber(a), WideMillis(b))),
+        _ => put_available(
+            out,
+            lookups::times::available_at(rec, table, WideNumber(a), WideMillis(b)),
+        ),
     }?;
     println!(out;)
 }

@@ -91,7 +91,12 @@ fn change_lent(name: u8, rec: Record, table: &mut [u64], s: [u64; PLACES]) -> Ch
 }
 
 // Two calls, and so two outcomes, both shown with what the second left.
-fn follow(out: &impl Print, before: Record, table: &mut [u64], s: [u64; PLACES]) -> io::Result<Record> {
+fn follow(
+    out: &impl Print,
+    before: Record,
+    table: &mut [u64],
+    s: [u64; PLACES],
+) -> io::Result<Record> {
     let both = held::follow(
         before,
         table,
@@ -122,7 +127,13 @@ fn follow(out: &impl Print, before: Record, table: &mut [u64], s: [u64; PLACES])
     Ok(rec)
 }
 
-fn call(out: &impl Print, name: u8, rec: Record, table: &mut [u64], s: [u64; PLACES]) -> io::Result<Record> {
+fn call(
+    out: &impl Print,
+    name: u8,
+    rec: Record,
+    table: &mut [u64],
+    s: [u64; PLACES],
+) -> io::Result<Record> {
     if name == b'f' {
         return follow(out, rec, table, s);
     }
