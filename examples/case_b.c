@@ -1,7 +1,6 @@
 /* Case B of the paper: five references of 4000 ticks at timescale 1000, behind a window of 10 seconds. Then the
- * same with an update period of two seconds, which the references must cover past the clock too; the same as a
- * packager sends them, by one call for each; and the same cut at an advert. What it must print stands in
- * case_b.txt. */
+ * same with an update period of two seconds, which the references must cover past the clock too; and the same as a
+ * packager sends them, by one call for each. What it must print stands in case_b.txt. */
 #include <inttypes.h>
 #include <stdint.h>
 #include <stdio.h>
@@ -56,10 +55,10 @@ static void append_trim(uint32_t stamp, uint64_t clock)
     show_append(call, refusal, distance);
 }
 
-static void verdict_of(const struct flonterri_timeline *of, uint64_t clock)
+static void verdict(uint64_t clock)
 {
     struct flonterri_verdict_answer answer;
-    uint32_t refusal = flonterri_timeline_verdict(of, clock, &answer);
+    uint32_t refusal = flonterri_timeline_verdict(&timeline, clock, &answer);
 
     printf("verdict at %" PRIu64 ": ", clock);
     if (refusal != FLONTERRI_OK) {
@@ -78,11 +77,6 @@ static void verdict_of(const struct flonterri_timeline *of, uint64_t clock)
                answer.needed, answer.percent);
         break;
     }
-}
-
-static void verdict(uint64_t clock)
-{
-    verdict_of(&timeline, clock);
 }
 
 /* Up to which clock the window ends in what was appended. */
@@ -186,31 +180,6 @@ static void one_call_for_each(const struct flonterri_head *head)
     append_trim(24000, 28000);
 }
 
-/* Shows which numbers a half of a cut has, and its verdict at a clock. */
-static void half(const char *name, const struct flonterri_timeline *of, uint64_t clock)
-{
-    uint64_t first = of->record[FLONTERRI_FIRST_NUMBER];
-
-    printf("%s: numbers %" PRIu64 " to %" PRIu64 "\n", name, first, first + of->record[FLONTERRI_ACCEPTED] - 1);
-    verdict_of(of, clock);
-}
-
-/* An advert at ten seconds. The reference from 8 to 12 seconds is in both halves, and what they need and cover adds
- * up to what the whole did. */
-static void cut_at_an_advert(const struct flonterri_head *head)
-{
-    static uint64_t other[TABLE_WORDS];
-    struct flonterri_timeline behind;
-
-    printf("cut at an advert\n");
-    five_references(head);
-    verdict(14000);
-    show("cut at 0", flonterri_timeline_split(&timeline, 0, &behind, other, TABLE_WORDS));
-    show("cut at 10000", flonterri_timeline_split(&timeline, 10000, &behind, other, TABLE_WORDS));
-    half("before the advert", &timeline, 14000);
-    half("behind the advert", &behind, 14000);
-}
-
 int main(void)
 {
     /* what is not named is 0: the end is unknown, and the window ends at the clock */
@@ -231,6 +200,5 @@ int main(void)
     file();
     with_update_period(head);
     one_call_for_each(&head);
-    cut_at_an_advert(&head);
     return 0;
 }

@@ -8,8 +8,7 @@
  * - it is not null, even where the length is 0: give the address of any element then. Each call below says
  *   so again by "no null";
  * - what it points at has been written, with zeros if with nothing better;
- * - what a call may change (a pointer without const) overlaps nothing else that the call is given: so the
- *   record, table, second and other of flonterri_split must not overlap one another;
+ * - what a call may change (a pointer without const) overlaps nothing else that the call is given;
  * - while a call runs no other thread touches what it may change, or writes to what it reads.
  *
  * The calls that change a timeline change the words of its record in place: go on with those words. A copy
@@ -151,21 +150,19 @@ enum flonterri_read_word {
 };
 
 /* What a function answers. Where several numbers apply to a call, it answers the lowest; but
- * flonterri_append_trim answers 10 before 3 to 9, flonterri_split answers 22, 23 and 24 before 9, and a file's
- * lines have an order of their own. Before all else a record that is not of 12 words is 2, then so is a second
- * that is not, and then an out that is not of its length is 15. No call answers 20 or 21 yet. */
+ * flonterri_append_trim answers 10 before 3 to 9, and a file's lines have an order of their own. Before all
+ * else a record that is not of 12 words is 2, and then an out that is not of its length is 15. */
 enum flonterri_refusal {
     FLONTERRI_OK = 0,              /* the call is accepted */
     FLONTERRI_OVER_LIMIT = 1,      /* a head field, the first tick or the offset over its limit, or timescale 0 */
-    FLONTERRI_DISAGREEMENT = 2,    /* record and table disagree, or the record or a second is not of 12 words */
+    FLONTERRI_DISAGREEMENT = 2,    /* record and table disagree, or the record is not of 12 words */
     FLONTERRI_NOTHING_GIVEN = 3,   /* duration or count 0 */
     FLONTERRI_GAP = 4,             /* the start lies after the next tick; out tells the distance */
     FLONTERRI_OVERLAP = 5,         /* the start lies before the next tick; out tells the distance */
     FLONTERRI_TICK_LIMIT = 6,      /* an end over 2^52 - 1 */
     FLONTERRI_COUNT_LIMIT = 7,     /* accepted total over 2^31, or first number plus accepted over 2^32 - 1 */
     FLONTERRI_PAST_END = 8,        /* a reference starts at or after a known period end */
-    FLONTERRI_NO_RUN_LEFT = 9,     /* a new run is needed, and the table is full; or other lacks the runs of
-                                      its half */
+    FLONTERRI_NO_RUN_LEFT = 9,     /* a new run is needed, and the table is full */
     FLONTERRI_CLOCK_LIMIT = 10,    /* the clock is over its limit */
     FLONTERRI_EARLIER_CLOCK = 11,  /* a verdict's clock lies before the greatest clock */
     FLONTERRI_NOTHING_KEPT = 12,   /* writing with no run kept */
@@ -176,10 +173,7 @@ enum flonterri_refusal {
                                       unended, missing, or extra after the end */
     FLONTERRI_BAD_ORDER = 17,      /* a frame out of order, S after a negative r, a wrong S count */
     FLONTERRI_NO_END_TO_REACH = 18, /* a negative r, and no known period end */
-    FLONTERRI_END_UNKNOWN = 19,    /* a whole-period verdict, and no known period end */
-    FLONTERRI_CUT_OUTSIDE = 22,    /* a cut at 0 or not below a known duration, or start plus cut over its limit */
-    FLONTERRI_CUT_OFF_TICK = 23,   /* a cut that is no whole number of ticks, or the offset there over 2^52 - 1 */
-    FLONTERRI_EMPTY_HALF = 24      /* a half of a cut keeps no reference */
+    FLONTERRI_END_UNKNOWN = 19     /* a whole-period verdict, and no known period end */
 };
 
 /* Opens a timeline: writes the record, and zeroes the table. update is the update period. Refusals 1, 2.
@@ -221,22 +215,6 @@ uint32_t flonterri_trim(uint64_t *record, size_t record_words, uint64_t *table, 
 uint32_t flonterri_append_trim(uint64_t *record, size_t record_words, uint64_t *table, size_t table_words,
                                uint32_t stamp, uint32_t duration, uint32_t count, uint64_t clock, uint64_t *out,
                                size_t out_words);
-
-/* Splits a period in two, as where an advert is to stand: at is the cut, in milliseconds from the period start,
- * and any 64-bit number. Record and table become the first half; second, a record of 12 words too, and other, its
- * table, become the second half, and what they held before is not looked at. The first period lasts up to the cut.
- * The second starts there, has the tick that stands there as its offset, and lasts for the rest; where the end is
- * unknown, it stays so. Each half keeps, of the kept references, those that start before its own period end and
- * are not spent for it at the greatest clock: one that lies over the cut is in both. They keep their numbers: a
- * half's first number is that of its first reference, accepted is how many it has, dropped is 0, and the next tick
- * is its last end. All else in the two records is as it was. From the greatest clock on, the needed ticks of the
- * halves add up to those of the whole, and so do the covered ones; a reference is available when it was. No append
- * joins the first half any more. Refusals 2, 22, 23, 24, 9, in this order, each for both halves before the next; 9
- * is about other alone, and never where it has as many words as table. Changes all four; refused it zeroes second
- * and leaves record, table and other as they came; refused with 2 for the length of record or second it changes
- * nothing. Record, table, second and other must not overlap one another. No null. */
-uint32_t flonterri_split(uint64_t *record, size_t record_words, uint64_t *table, size_t table_words, uint64_t at,
-                         uint64_t *second, size_t second_words, uint64_t *other, size_t other_words);
 
 /* The verdict at a clock. The window ends at the clock plus the update period, or with the period if that is
  * earlier; the sum may pass the limit of milliseconds. out has 5 words, as flonterri_verdict_word names them.

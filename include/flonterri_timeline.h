@@ -154,21 +154,6 @@ static inline uint32_t flonterri_timeline_append_trim(struct flonterri_timeline 
                                  stamp, duration, count, clock, distance, FLONTERRI_DISTANCE_WORDS);
 }
 
-/* Splits a period in two at a cut, in milliseconds from its start, as where an advert is to stand. The timeline
- * becomes the first half. Fills second, whatever it held before, with the second half over a table of so many words
- * of its own; as many words as the timeline's table has are always enough. Refusals 2, 22, 23, 24, 9, in this
- * order, which leave the timeline and both tables as they came, and a second record of zeros, so that every call
- * of second but opening and reading is refused with 2. The two timelines and the two tables must not overlap one
- * another. No null. */
-static inline uint32_t flonterri_timeline_split(struct flonterri_timeline *timeline, uint64_t at,
-                                                struct flonterri_timeline *second, uint64_t *table,
-                                                size_t table_words)
-{
-    *second = flonterri_timeline_over(table, table_words);
-    return flonterri_split(timeline->record, FLONTERRI_RECORD_WORDS, timeline->table, timeline->table_words, at,
-                           second->record, FLONTERRI_RECORD_WORDS, table, table_words);
-}
-
 /* ---- the calls that look: refused, they leave the answer as it came */
 
 /* Gives a verdict by its words, unless it is refused. */

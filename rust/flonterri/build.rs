@@ -1,4 +1,4 @@
-//! Finds the archive that `rt staticlib flonterri` writes and has it linked.
+//! Finds the archive that `.ci/compare` builds and has it linked.
 
 use std::env;
 use std::path::{Path, PathBuf};
@@ -18,7 +18,7 @@ fn main() {
 
     if !archive.is_file() {
         fail(&format!(
-            "there is no {} in {}. Run `rt staticlib flonterri` at the top of the repository, \
+            "there is no {} in {}. Build it as README.md says under \"Link it\", \
              or set {} to the folder that has the archive",
             ARCHIVE,
             folder.display(),

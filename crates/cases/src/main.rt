@@ -5,7 +5,8 @@
 
 use agreement::Record;
 use keeping::Changed;
-use libc::{STDIN_FILENO, STDOUT_FILENO};
+use std::io;
+use std::io::Read;
 use units::{Stamp, WideMillis, WideTick};
 use window::HeadFields;
 
@@ -90,7 +91,12 @@ fn change_lent(name: u8, rec: Record, table: &mut [u64], s: [u64; PLACES]) -> Ch
 }
 
 // Two calls, and so two outcomes, both shown with what the second left.
-fn follow(before: Record, table: &mut [u64], s: [u64; PLACES]) -> Record {
+fn follow(
+    out: &impl Print,
+    before: Record,
+    table: &mut [u64],
+    s: [u64; PLACES],
+) -> io::Result<Record> {
     let both = held::follow(
         before,
         table,
@@ -103,77 +109,89 @@ fn follow(before: Record, table: &mut [u64], s: [u64; PLACES]) -> Record {
     let trimmed = both.trimmed;
     let rec = both.rec;
     show(
+        out,
         Changed {
             outcome: appended,
             rec,
         },
         table,
-    );
+    )?;
     show(
+        out,
         Changed {
             outcome: trimmed,
             rec,
         },
         table,
-    );
-    rec
+    )?;
+    Ok(rec)
 }
 
-fn call(name: u8, rec: Record, table: &mut [u64], s: [u64; PLACES]) -> Record {
+fn call(
+    out: &impl Print,
+    name: u8,
+    rec: Record,
+    table: &mut [u64],
+    s: [u64; PLACES],
+) -> io::Result<Record> {
     if name == b'f' {
-        return follow(rec, table, s);
+        return follow(out, rec, table, s);
     }
     if lends(name) {
         let changed = change_lent(name, rec, table, s);
-        show(changed, table);
-        return changed.rec;
+        show(out, changed, table)?;
+        return Ok(changed.rec);
     }
     if changes(name) {
         let changed = change(name, rec, table, s);
-        show(changed, table);
-        return changed.rec;
+        show(out, changed, table)?;
+        return Ok(changed.rec);
     }
-    look(name, rec, table, s[1], s[2]);
-    rec
+    look(out, name, rec, table, s[1], s[2])?;
+    Ok(rec)
 }
 
 // A comment begins with '#'.
-fn step(rec: Record, table: &mut [u64], line: &[u8]) -> Record {
+fn step(out: &impl Print, rec: Record, table: &mut [u64], line: &[u8]) -> io::Result<Record> {
     if line.len() == 0 {
-        return rec;
+        return Ok(rec);
     }
     let name = line[0];
     if name == b'#' {
-        return rec;
+        return Ok(rec);
     }
-    io::write_all(STDOUT_FILENO, line);
-    io::write_all(STDOUT_FILENO, b":");
-    call(name, rec, table, numbers(line))
+    out.write_all(line)?;
+    print!(out; ":")?;
+    call(out, name, rec, table, numbers(line))
 }
 
-fn run(table: &mut [u64], steps: &[u8]) {
+fn run(out: &impl Print, table: &mut [u64], steps: &[u8]) -> io::Result<()> {
     let mut rec = timeline::zero_record();
     let mut i = 0;
     while i < steps.len() {
         let end = line_end(steps, i);
-        rec = step(rec, table, &steps[i..end]);
+        rec = step(out, rec, table, &steps[i..end])?;
         i = past_feed(steps, end);
     }
+    Ok(())
 }
 
-fn run_all(steps: &[u8]) {
+fn run_all(out: &impl Print, steps: &[u8]) -> io::Result<()> {
     let mut seven = [9u64; 7];
-    run(&mut seven, steps);
+    run(out, &mut seven, steps)?;
     let mut three = [9u64; 3];
-    run(&mut three, steps);
+    run(out, &mut three, steps)?;
     let mut two = [9u64; 2];
-    run(&mut two, steps);
+    run(out, &mut two, steps)?;
     let mut none = [9u64; 0];
-    run(&mut none, steps);
+    run(out, &mut none, steps)
 }
 
-fn main() {
-    let mut bytes = io::large_buffer();
-    let length = io::read_full(STDIN_FILENO, &mut bytes);
-    run_all(&bytes[..length]);
+// The steps are 65,536 bytes at most; what stands behind them is not read.
+const LONGEST: u64 = 65_536;
+
+fn main(rt: HostRuntime) -> io::Result<()> {
+    let mut steps = Vec::new(rt.alloc());
+    rt.stdin().take(LONGEST).read_to_end(&mut steps)?;
+    run_all(&rt, &steps)
 }

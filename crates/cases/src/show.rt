@@ -2,52 +2,51 @@
 // the table.
 use agreement::Record;
 use keeping::Changed;
-use libc::STDOUT_FILENO;
+use std::io;
 
-pub(crate) fn put(n: u64) {
-    io::write_all(STDOUT_FILENO, b" ");
-    io::print_decimal(STDOUT_FILENO, n);
+pub(crate) fn put(out: &impl Print, n: u64) -> io::Result<()> {
+    print!(out; " {n}")
 }
 
 // How far the start of a refused append lies from the next tick, where that is why.
-fn put_distance(distance: u64) {
+fn put_distance(out: &impl Print, distance: u64) -> io::Result<()> {
     if distance != 0 {
-        io::write_all(STDOUT_FILENO, b" by");
-        put(distance);
+        print!(out; " by")?;
+        put(out, distance)?;
     }
+    Ok(())
 }
 
-fn put_record(rec: Record) {
-    put(rec.head.timescale.0);
-    put(rec.head.offset.0);
-    put(rec.head.start.0);
-    put(rec.head.duration.0);
-    put(rec.head.depth.0);
-    put(rec.head.first.0);
-    put(rec.head.update.0);
-    put(rec.accepted);
-    put(rec.dropped);
-    put(rec.next.0);
-    put(rec.clock.0);
-    put(rec.used as u64);
+fn put_record(out: &impl Print, rec: Record) -> io::Result<()> {
+    put(out, rec.head.timescale.0)?;
+    put(out, rec.head.offset.0)?;
+    put(out, rec.head.start.0)?;
+    put(out, rec.head.duration.0)?;
+    put(out, rec.head.depth.0)?;
+    put(out, rec.head.first.0)?;
+    put(out, rec.head.update.0)?;
+    put(out, rec.accepted)?;
+    put(out, rec.dropped)?;
+    put(out, rec.next.0)?;
+    put(out, rec.clock.0)?;
+    put(out, rec.used as u64)
 }
 
-fn put_words(words: &[u64]) {
-    let mut i = 0;
-    while i < words.len() {
-        put(words[i]);
-        i += 1;
+fn put_words(out: &impl Print, words: &[u64]) -> io::Result<()> {
+    for word in words {
+        put(out, *word)?;
     }
+    Ok(())
 }
 
-pub(crate) fn show(changed: Changed, table: &[u64]) {
+pub(crate) fn show(out: &impl Print, changed: Changed, table: &[u64]) -> io::Result<()> {
     let rec = changed.rec;
     let outcome = changed.outcome;
-    put(outcome.number() as u64);
-    put_distance(outcome.distance());
-    io::write_all(STDOUT_FILENO, b" |");
-    put_record(rec);
-    io::write_all(STDOUT_FILENO, b" |");
-    put_words(table);
-    io::write_all(STDOUT_FILENO, b"\n");
+    put(out, outcome.number() as u64)?;
+    put_distance(out, outcome.distance())?;
+    print!(out; " |")?;
+    put_record(out, rec)?;
+    print!(out; " |")?;
+    put_words(out, table)?;
+    println!(out;)
 }

@@ -1,6 +1,8 @@
 // The program. Its stored input is case B at 14,000, where it is complete.
 #![tactic(auto)]
 
-fn main() {
-    report::run();
+use std::io;
+
+fn main(rt: HostRuntime) -> io::Result<()> {
+    report::run(&rt)
 }

@@ -1,6 +1,8 @@
 // The program on case B at 0, where nothing is needed.
 #![tactic(auto)]
 
-fn main() {
-    report::run();
+use std::io;
+
+fn main(rt: HostRuntime) -> io::Result<()> {
+    report::run(&rt)
 }

@@ -1,6 +1,8 @@
 // The program on a file whose second line is not ended.
 #![tactic(auto)]
 
-fn main() {
-    report::run();
+use std::io;
+
+fn main(rt: HostRuntime) -> io::Result<()> {
+    report::run(&rt)
 }

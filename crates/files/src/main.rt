@@ -8,7 +8,10 @@ ghost use Rattle.std.specs.Prelude.{◌≡◌, min, ◌≤◌};
 
 use agreement::Record;
 use file::ReadAnswer;
-use libc::STDOUT_FILENO;
+use std::fs::File;
+use std::io::Read;
+use std::rt::Files;
+use std::{env, io};
 use units::{WideMillis, WideTick};
 use window::HeadFields;
 
@@ -28,7 +31,7 @@ fn smaller(a: usize, b: usize) -> usize
 }
 
 // Case B after its trim at 18,000.
-fn case_b() {
+fn case_b(out: &impl Print) -> io::Result<()> {
     let mut table = [0u64; WORDS];
     let fields = HeadFields {
         timescale: 1000,
@@ -42,7 +45,7 @@ fn case_b() {
     let opened = timeline::open(fields, WideTick(0), &mut table);
     let filled = timeline::append(opened.rec, &mut table, WideTick(0), 4000, 5);
     let trimmed = timeline::trim(filled.rec, &mut table, WideMillis(18000));
-    put_file(trimmed.rec, &table);
+    put_file(out, trimmed.rec, &table)
 }
 
 fn read_in_pieces(bytes: &[u8], table: &mut [u64], size: usize) -> ReadAnswer
@@ -58,45 +61,38 @@ fn read_in_pieces(bytes: &[u8], table: &mut [u64], size: usize) -> ReadAnswer
     file::finish(reader, table)
 }
 
-fn judge(bytes: &[u8]) {
+fn judge(out: &impl Print, bytes: &[u8]) -> io::Result<()> {
     let mut table = [9u64; WORDS];
-    put_answer(read_in_pieces(bytes, &mut table, 1), &table);
-    put_answer(read_in_pieces(bytes, &mut table, 7), &table);
+    put_answer(out, read_in_pieces(bytes, &mut table, 1), &table)?;
+    put_answer(out, read_in_pieces(bytes, &mut table, 7), &table)?;
     let answer = file::read(bytes, &mut table);
-    put_answer(answer, &table);
-    io::write_all(STDOUT_FILENO, b"\n");
+    put_answer(out, answer, &table)?;
+    println!(out;)?;
     let rec = answer.rec;
-    put_written(rec, answer.line, &table);
+    put_written(out, rec, answer.line, &table)
 }
 
-fn put_written(rec: Record, line: u64, table: &[u64]) {
+fn put_written(out: &impl Print, rec: Record, line: u64, table: &[u64]) -> io::Result<()> {
     if line == 0 {
-        put_file(rec, table);
+        put_file(out, rec, table)?;
     }
+    Ok(())
 }
 
-fn run_file(name: &[u8]) {
-    let mut bytes = io::buffer();
-    let file = os::open_read(name);
-    let length = io::read_full(file, &mut bytes);
-    libc::close(file);
-    io::write_all(STDOUT_FILENO, name);
-    io::write_all(STDOUT_FILENO, b":");
-    judge(&bytes[..length]);
+// A file is 4,096 bytes at most; what stands behind them is not read.
+const LONGEST: u64 = 4_096;
+
+fn run_file<R: Files + AllocGlobal + Print>(rt: &R, name: &str) -> io::Result<()> {
+    let mut bytes = Vec::new(rt.alloc());
+    File::open(rt, name)?.take(LONGEST).read_to_end(&mut bytes)?;
+    print!(rt; "{name}:")?;
+    judge(rt, &bytes)
 }
 
-fn run_argument(i: usize) {
-    let mut name = [0u8; 80];
-    let length = os::arg(i, &mut name);
-    run_file(&name[..length]);
-}
-
-fn main() {
-    case_b();
-    let count = os::arg_count();
-    let mut i = 1;
-    while i < count {
-        run_argument(i);
-        i += 1;
+fn main(rt: HostRuntime) -> io::Result<()> {
+    case_b(&rt)?;
+    for name in env::args(&rt)?.skip(1) {
+        run_file(&rt, name.as_str())?;
     }
+    Ok(())
 }

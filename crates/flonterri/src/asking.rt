@@ -13,8 +13,7 @@ const FULL_TICK_WORDS: usize = 2;
 
 // Whether the reference of a number is available at a clock. A number is kept or it is not, whatever
 // its size.
-#[unsafe(no_mangle)]
-pub extern "C" fn flonterri_available_at(
+pub fn flonterri_available_at(
     record: &[u64],
     table: &[u64],
     number: u64,
@@ -38,13 +37,7 @@ pub extern "C" fn flonterri_available_at(
 }
 
 // The full tick of a stamp by the next tick.
-#[unsafe(no_mangle)]
-pub extern "C" fn flonterri_full_tick(
-    record: &[u64],
-    table: &[u64],
-    stamp: u32,
-    out: &mut [u64],
-) -> u32
+pub fn flonterri_full_tick(record: &[u64], table: &[u64], stamp: u32, out: &mut [u64]) -> u32
     ensures value { result ≡ (tells_full_tick «record».now table.now stamp out.old).number }
     ensures out_after { out.new ≡ (tells_full_tick «record».now table.now stamp out.old).out }
 {

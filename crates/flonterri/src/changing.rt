@@ -7,8 +7,7 @@ use window::HeadFields;
 use words::{give_appended, give_back, record_of, wrong_length, wrong_record};
 
 // Opens a timeline over a table.
-#[unsafe(no_mangle)]
-pub extern "C" fn flonterri_open(
+pub fn flonterri_open(
     record: &mut [u64],
     table: &mut [u64],
     timescale: u32,
@@ -44,8 +43,7 @@ pub extern "C" fn flonterri_open(
 const DISTANCE_WORDS: usize = 1;
 
 // Appends references whose start is a full tick.
-#[unsafe(no_mangle)]
-pub extern "C" fn flonterri_append(
+pub fn flonterri_append(
     record: &mut [u64],
     table: &mut [u64],
     start: u64,
@@ -68,8 +66,7 @@ pub extern "C" fn flonterri_append(
 }
 
 // Appends references whose start is a 32-bit stamp.
-#[unsafe(no_mangle)]
-pub extern "C" fn flonterri_append_stamp(
+pub fn flonterri_append_stamp(
     record: &mut [u64],
     table: &mut [u64],
     stamp: u32,
@@ -92,8 +89,7 @@ pub extern "C" fn flonterri_append_stamp(
 }
 
 // Raises the greatest clock and drops what is spent then.
-#[unsafe(no_mangle)]
-pub extern "C" fn flonterri_trim(record: &mut [u64], table: &mut [u64], clock: u64) -> u32
+pub fn flonterri_trim(record: &mut [u64], table: &mut [u64], clock: u64) -> u32
     ensures value { result ≡ (trims «record».old table.old clock).number }
     ensures record_after { «record».new ≡ (trims «record».old table.old clock).words }
     ensures table_after { table.new ≡ (trims «record».old table.old clock).table }
@@ -108,8 +104,7 @@ pub extern "C" fn flonterri_trim(record: &mut [u64], table: &mut [u64], clock: u
 }
 
 // Appends references whose start is a 32-bit stamp, and trims at a clock.
-#[unsafe(no_mangle)]
-pub extern "C" fn flonterri_append_trim(
+pub fn flonterri_append_trim(
     record: &mut [u64],
     table: &mut [u64],
     stamp: u32,

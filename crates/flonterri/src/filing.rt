@@ -9,13 +9,7 @@ const LINE_WORDS: usize = 2;
 const LENGTH_WORDS: usize = 1;
 
 // Reads a whole file into the record and the table.
-#[unsafe(no_mangle)]
-pub extern "C" fn flonterri_read(
-    bytes: &[u8],
-    record: &mut [u64],
-    table: &mut [u64],
-    out: &mut [u64],
-) -> u32
+pub fn flonterri_read(bytes: &[u8], record: &mut [u64], table: &mut [u64], out: &mut [u64]) -> u32
     ensures value { result ≡ (reads bytes.now «record».old table.old out.old).number }
     ensures record_after { «record».new ≡ (reads bytes.now «record».old table.old out.old).words }
     ensures table_after { table.new ≡ (reads bytes.now «record».old table.old out.old).table }
@@ -30,13 +24,7 @@ pub extern "C" fn flonterri_read(
 }
 
 // Writes the whole file of what record and table keep.
-#[unsafe(no_mangle)]
-pub extern "C" fn flonterri_write(
-    record: &[u64],
-    table: &[u64],
-    bytes: &mut [u8],
-    out: &mut [u64],
-) -> u32
+pub fn flonterri_write(record: &[u64], table: &[u64], bytes: &mut [u8], out: &mut [u64]) -> u32
     ensures value { result ≡ (writes «record».now table.now bytes.old out.old).number }
     ensures bytes_after { bytes.new ≡ (writes «record».now table.now bytes.old out.old).bytes }
     ensures out_after { out.new ≡ (writes «record».now table.now bytes.old out.old).out }

@@ -17,13 +17,7 @@ const TOUCHING_WORDS: usize = 2;
 const EDGE_WORDS: usize = 2;
 
 // The verdict at a clock.
-#[unsafe(no_mangle)]
-pub extern "C" fn flonterri_verdict(
-    record: &[u64],
-    table: &[u64],
-    clock: u64,
-    out: &mut [u64],
-) -> u32
+pub fn flonterri_verdict(record: &[u64], table: &[u64], clock: u64, out: &mut [u64]) -> u32
     ensures value { result ≡ (tells_verdict «record».now table.now clock out.old).number }
     ensures out_after { out.new ≡ (tells_verdict «record».now table.now clock out.old).out }
 {
@@ -36,8 +30,7 @@ pub extern "C" fn flonterri_verdict(
 }
 
 // The verdict of the whole period.
-#[unsafe(no_mangle)]
-pub extern "C" fn flonterri_verdict_whole(record: &[u64], table: &[u64], out: &mut [u64]) -> u32
+pub fn flonterri_verdict_whole(record: &[u64], table: &[u64], out: &mut [u64]) -> u32
     ensures value { result ≡ (tells_whole «record».now table.now out.old).number }
     ensures out_after { out.new ≡ (tells_whole «record».now table.now out.old).out }
 {
@@ -50,13 +43,7 @@ pub extern "C" fn flonterri_verdict_whole(record: &[u64], table: &[u64], out: &m
 }
 
 // When the reference of a number is available. A number is kept or it is not, whatever its size.
-#[unsafe(no_mangle)]
-pub extern "C" fn flonterri_availability(
-    record: &[u64],
-    table: &[u64],
-    number: u64,
-    out: &mut [i64],
-) -> u32
+pub fn flonterri_availability(record: &[u64], table: &[u64], number: u64, out: &mut [i64]) -> u32
     ensures value { result ≡ (tells_availability «record».now table.now number out.old).number }
     ensures out_after { out.new ≡ (tells_availability «record».now table.now number out.old).out }
 {
@@ -69,14 +56,7 @@ pub extern "C" fn flonterri_availability(
 }
 
 // The words of the runs that touch the ticks from a up to b, that one excluded.
-#[unsafe(no_mangle)]
-pub extern "C" fn flonterri_touching(
-    record: &[u64],
-    table: &[u64],
-    a: u64,
-    b: u64,
-    out: &mut [u64],
-) -> u32
+pub fn flonterri_touching(record: &[u64], table: &[u64], a: u64, b: u64, out: &mut [u64]) -> u32
     ensures value { result ≡ (tells_touching «record».now table.now a b out.old).number }
     ensures out_after { out.new ≡ (tells_touching «record».now table.now a b out.old).out }
 {
@@ -89,8 +69,7 @@ pub extern "C" fn flonterri_touching(
 }
 
 // The covered edge: the latest clock at which the window's upper edge has not passed the next tick.
-#[unsafe(no_mangle)]
-pub extern "C" fn flonterri_covered_edge(record: &[u64], table: &[u64], out: &mut [u64]) -> u32
+pub fn flonterri_covered_edge(record: &[u64], table: &[u64], out: &mut [u64]) -> u32
     ensures value { result ≡ (tells_edge «record».now table.now out.old).number }
     ensures out_after { out.new ≡ (tells_edge «record».now table.now out.old).out }
 {

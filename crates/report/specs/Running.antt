@@ -19,6 +19,11 @@ pub record Reads (came : List ℕ) (f : Fed) (ws : List ℕ) : Type 0 where
   pub brought : Brought came f.desk ws
   pub settles : f.stopped ≡ Settled → settled f.desk ≡ true
 
+-- a read failed: the table stands where some pieces brought it, with some desk
+pub record Left (came ws : List ℕ) : Type 0 where
+  pub desk : Desk
+  pub brought : Brought came desk ws
+
 -- n bytes at the front of an output tell a desk and its table: whichever pieces brought them where they stand, from any 3,072 words, they are the
 -- answer to all the bytes of those pieces; and if the desk is settled, to those bytes with any more behind them
 pub record Tells (d : Desk) (ws out : List ℕ) (n : ℕ) : Type 0 where

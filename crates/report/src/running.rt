@@ -1,85 +1,84 @@
 // The program's reads and its one write. No contract can say which bytes a read brings or a write takes.
-// Stated is what lies between: the loop ends and leaves desk and table where some pieces of input bring
-// them, and the line that is made then is the answer to all the bytes of those pieces; where the loop
-// stopped because the answer is settled, to those bytes with any more behind them. `run` hands that line
-// to the write, unless a read failed, and tells what failed on standard error.
-ghost use Rattle.report.specs.Running.{Reads, Tells, Answered};
+// Stated is what lies between, for any reader: the loop ends and leaves desk and table where some pieces of
+// input bring them, and the line that is made then is the answer to all the bytes of those pieces; where the
+// loop stopped because the answer is settled, to those bytes with any more behind them. `run` hands that line
+// to the write, unless a read failed, tells what failed on standard error and ends with it.
+ghost use Rattle.std.specs.Prelude.{IfOk, OnErr};
+ghost use Rattle.std.specs.Io.{ReadsAtMost};
+ghost use Rattle.report.specs.Running.{Reads, Left, Tells, Answered};
 
 use crate::{Desk, Fed, Made, Stopped, feeding, replying};
-use libc::{STDIN_FILENO, STDOUT_FILENO};
+use std::fs::File;
+use std::io;
+use std::io::{ErrorKind, Input, Read};
+use std::rt::Files;
 
 // A read, again while a signal comes first. A proved loop has to end, and nothing says that this one
-// does: so the turns are counted down, from a number that no run uses up.
-fn read_once(fd: i32, buffer: &mut [u8]) -> isize {
-    let mut turns = u64::MAX;
-    while turns > 0 {
-        let got = libc::read(fd, buffer);
-        if got >= 0 {
-            return got;
+// does: so the turns are counted, up to a number that no run uses up.
+fn read_once<R: Read>(input: &mut R, buffer: &mut [u8]) -> io::Result<usize>
+    ensures { ReadsAtMost result buffer.new }
+{
+    for _ in 0..u64::MAX {
+        match input.read(buffer) {
+            Ok(count) => return Ok(count),
+            Err(failure) => {
+                if failure.kind() != ErrorKind::Interrupted {
+                    return Err(failure);
+                }
+            }
         }
-        if os::errno() != libc::EINTR {
-            return got;
-        }
-        turns -= 1;
     }
-    -1
+    Err(io::Error::from(ErrorKind::Interrupted))
 }
 
-// A read of standard input. A descriptor that does not block may have no bytes yet: then the same input
-// is opened as one that does, so that the read waits for them.
-fn read_some(buffer: &mut [u8]) -> isize {
-    let got = read_once(STDIN_FILENO, buffer);
-    if got >= 0 {
-        return got;
+// Standard input. A descriptor that does not block may have no bytes yet: then the same input is opened
+// as one that does, so that the read waits for them.
+#[derive(Drop)]
+struct StandardInput<'a, R: Input + Files> {
+    rt: &'a R,
+    reader: R::Reader,
+}
+
+impl<'a, R: Input + Files> Read for StandardInput<'a, R> {
+    fn read(&mut self, buffer: &mut [u8]) -> io::Result<usize> {
+        let got = read_once(&mut self.reader, buffer);
+        if let Err(failure) = &got {
+            if failure.kind() == ErrorKind::WouldBlock {
+                return read_once(&mut File::open(self.rt, "/dev/stdin")?, buffer);
+            }
+        }
+        got
     }
-    if os::errno() != libc::EAGAIN {
-        return got;
-    }
-    let fd = os::open_read(b"/dev/stdin");
-    if fd < 0 {
-        return -1;
-    }
-    let later = read_once(fd, buffer);
-    libc::close(fd);
-    later
 }
 
 // A read that brings nothing ends the input. One that fails never passes for that end, and neither do
 // turns that are used up, which are counted as above.
-fn feed_all(table: &mut [u64]) -> Fed
-    ensures { Reads table.old result table.new }
+fn feed_all<R: Read>(input: &mut R, table: &mut [u64]) -> io::Result<Fed>
+    ensures fed { IfOk result (λ fed. Reads table.old fed table.new) }
+    ensures failed { OnErr result (Left table.old table.new) }
 {
-    let mut buffer = io::large_buffer();
+    let mut buffer = [0u8; 65536];
     let mut desk = feeding::begin();
-    let mut turns = u64::MAX;
-    while turns > 0 {
-        let got = read_some(&mut buffer);
-        if got < 0 {
-            return Fed {
-                desk,
-                stopped: Stopped::Failed,
-            };
-        }
-        let count = io::count(got, &buffer);
+    for _ in 0..u64::MAX {
+        let count = input.read(&mut buffer)?;
         if count == 0 {
-            return Fed {
+            return Ok(Fed {
                 desk,
                 stopped: Stopped::Ended,
-            };
+            });
         }
         desk = feeding::feed(desk, table, &buffer[..count]);
         if feeding::settled(desk) {
-            return Fed {
+            return Ok(Fed {
                 desk,
                 stopped: Stopped::Settled,
-            };
+            });
         }
-        turns -= 1;
     }
-    Fed {
+    Ok(Fed {
         desk,
         stopped: Stopped::Failed,
-    }
+    })
 }
 
 // The line to the pieces that brought desk and table where they stand, whichever they are.
@@ -89,29 +88,42 @@ fn tell(desk: Desk, table: &mut [u64], out: &mut [u8; 93]) -> usize
     replying::answer(desk, table, out)
 }
 
-// Reads standard input until its answer is certain, and makes the line.
-fn answer_input(out: &mut [u8; 93]) -> Made
-    ensures { Answered result.stopped out.new result.count }
+// Reads an input until its answer is certain, and makes the line.
+fn answer_input<R: Read>(input: &mut R, out: &mut [u8; 93]) -> io::Result<Made>
+    ensures { IfOk result (λ made. Answered made.stopped out.new made.count) }
 {
     let mut table = [0u64; 3072];
-    let fed = feed_all(&mut table);
+    let fed = feed_all(input, &mut table)?;
     let stopped = fed.stopped;
     let count = tell(fed.desk, &mut table, out);
-    Made { count, stopped }
+    Ok(Made { count, stopped })
 }
 
-// Writes the answer to standard output. Where a read failed there is none. The kit has no exit status, so
-// a failure is told on standard error alone.
-pub fn run() {
+fn read_and_answer<R: Input + Files>(rt: &R, out: &mut [u8; 93]) -> io::Result<Made>
+    ensures { IfOk result (λ made. Answered made.stopped out.new made.count) }
+{
+    let reader = rt.reader();
+    answer_input(&mut StandardInput { rt, reader }, out)
+}
+
+// Tells a failure on standard error, and hands it on.
+fn tell_failure(rt: &impl Eprint, what: &str, failure: io::Error) -> io::Error {
+    let _ = eprintln!(rt; "desk: {what}: {failure}");
+    failure
+}
+
+// Reads standard input until its answer is certain, and writes the answer to standard output. Where a
+// read failed there is none. What failed is told on standard error, and is what the program ends with.
+pub fn run<R: Input + Files + Print + Eprint>(rt: &R) -> io::Result<()> {
     let mut line = [0u8; 93];
-    let made = answer_input(&mut line);
-    let stopped = made.stopped;
-    if let Stopped::Failed = stopped {
-        os::fail(b"desk: reading standard input");
-        return;
+    let made = match read_and_answer(rt, &mut line) {
+        Ok(made) => made,
+        Err(failure) => return Err(tell_failure(rt, "reading standard input", failure)),
+    };
+    if let Stopped::Failed = made.stopped {
+        let failure = io::Error::from(ErrorKind::TimedOut);
+        return Err(tell_failure(rt, "reading standard input", failure));
     }
-    let written = io::write_all(STDOUT_FILENO, &line[..made.count]);
-    if !written {
-        os::fail(b"desk: writing standard output");
-    }
+    let written = rt.write_all(&line[..made.count]);
+    written.map_err(|failure| tell_failure(rt, "writing standard output", failure))
 }

@@ -15,8 +15,6 @@ pub type AppendStamp = fn(&mut [u64], &mut [u64], u32, u32, u32, &mut [u64]) -> 
 pub type AppendTrim = fn(&mut [u64], &mut [u64], u32, u32, u32, u64, &mut [u64]) -> u32;
 /// A trim.
 pub type Trim = fn(&mut [u64], &mut [u64], u64) -> u32;
-/// A cut: the second record and its table come last.
-pub type Split = fn(&mut [u64], &mut [u64], u64, &mut [u64], &mut [u64]) -> u32;
 /// A verdict at a clock.
 pub type Verdict = fn(&[u64], &[u64], u64, &mut [u64]) -> u32;
 /// A verdict of the whole period.
@@ -51,8 +49,6 @@ pub struct Face {
     pub append_trim: AppendTrim,
     /// Trimming.
     pub trim: Trim,
-    /// Splitting in two.
-    pub split: Split,
     /// The verdict at a clock.
     pub verdict: Verdict,
     /// The verdict of the whole period.
@@ -81,7 +77,6 @@ pub const ARCHIVE: Face = Face {
     append_stamp: words::append_stamp,
     append_trim: words::append_trim,
     trim: words::trim,
-    split: words::split,
     verdict: words::verdict,
     verdict_whole: words::verdict_whole,
     availability: words::availability,
@@ -101,7 +96,6 @@ pub const PLAIN: Face = Face {
     append_stamp: plain_face::append_stamp,
     append_trim: plain_face::append_trim,
     trim: plain_face::trim,
-    split: plain_face::split,
     verdict: plain_face::verdict,
     verdict_whole: plain_face::verdict_whole,
     availability: plain_face::availability,

@@ -14,8 +14,6 @@
 //! - in the program, 11, since reading leaves the greatest clock at 0, and whatever a file cannot
 //!   have.
 
-mod splits;
-
 use flonterri::words::{word, RUN_WORDS};
 
 use crate::face::PLAIN;
@@ -31,7 +29,7 @@ use crate::text::{clock_line, s_fields, ALL_ONES};
 const APPENDS: &[&str] = &["0", "2", "3", "4", "5", "6", "7", "8", "9", "15"];
 
 /// The numbers that each call can answer.
-const NUMBERS: [(&str, &[&str]); 15] = [
+const NUMBERS: [(&str, &[&str]); 14] = [
     ("open", &["0", "1", "2"]),
     ("append", APPENDS),
     ("append_stamp", APPENDS),
@@ -40,7 +38,6 @@ const NUMBERS: [(&str, &[&str]); 15] = [
         &["0", "2", "3", "4", "5", "6", "7", "8", "9", "10", "15"],
     ),
     ("trim", &["0", "2", "10"]),
-    ("split", splits::NUMBERS),
     ("verdict", &["0", "2", "10", "11", "15"]),
     ("verdict_whole", &["0", "2", "15", "19"]),
     ("availability", &["0", "2", "13", "15"]),
@@ -206,7 +203,7 @@ const WAYS: [(&str, &[&str]); 32] = [
 
 /// Announces what the calls must meet.
 pub fn announce_calls(tally: &mut Tally) {
-    for (group, items) in NUMBERS.iter().chain(&WAYS).chain(&splits::WAYS) {
+    for (group, items) in NUMBERS.iter().chain(&WAYS) {
         tally.announce(group, items);
     }
 }
@@ -255,7 +252,7 @@ fn meet_untrimmed(tally: &mut Tally, made: &Made) {
     }
 }
 
-/// Counts what an append, a reading and a cut tell where they are refused.
+/// Counts what an append and a reading tell where they are refused.
 fn meet_told(tally: &mut Tally, made: &Made) {
     let (number, out) = (made.answer.number, &made.answer.out);
     match &made.step.call {
@@ -264,7 +261,6 @@ fn meet_told(tally: &mut Tally, made: &Made) {
             meet_out(tally, made, out[0]);
             meet_stopped(tally, made);
         }
-        Call::Split(cut) if number != 0 => splits::meet_refused(tally, made, *cut),
         Call::Read { bytes } if number != 0 => {
             tally.meet("read refused", &refused_line(bytes, out[0], number));
             if out[1] != 0 || tells_distance(number) {
@@ -401,7 +397,6 @@ fn meet_accepted(tally: &mut Tally, made: &Made) {
             let dropped = dropped_by(&before(made), &after(made), *clock);
             tally.meet("trim dropped", dropped);
         }
-        Call::Split(cut) => splits::meet_accepted(tally, made, *cut),
         Call::Verdict { clock } => {
             tally.meet("verdict kind", verdict_kind(out[0]));
             meet_window(tally, &after(made), *clock);
@@ -526,7 +521,6 @@ fn meet_append_trim(tally: &mut Tally, made: &Made, count: u32, clock: u64) {
             answer: &append.perform(&PLAIN, made.before),
             step: &append,
             untrimmed: false,
-            together: Vec::new(),
         };
         meet_append(tally, &appended, "append_trim taken", count);
         let (between, after) = (after(&appended), after(made));

@@ -14,7 +14,6 @@ pub mod report;
 mod by_hand;
 mod calls;
 mod generator;
-mod halves;
 mod inputs;
 mod kinds;
 mod limits;

@@ -4,7 +4,6 @@ use std::fmt;
 
 use crate::face::Faces;
 use crate::generator::Generator;
-use crate::halves::{self, Together};
 use crate::random::steps;
 use crate::shorten::shorten;
 use crate::step::{Answer, Call, Lent, Step};
@@ -35,8 +34,8 @@ impl Sequence {
         }
     }
 
-    /// Makes every call through both sides, has a twin follow, the halves of a cut asked and each call
-    /// looked at, and stops at the first difference.
+    /// Makes every call through both sides, has a twin follow and each call looked at, and stops at
+    /// the first difference.
     pub fn run(&self, faces: &Faces, mut look: impl FnMut(&Made)) -> Result<(), Difference> {
         let mut before = Lent::anything(self.table_words);
         let mut twin = Twin::default();
@@ -48,13 +47,11 @@ impl Sequence {
             let makes_record = step.call.makes_record();
             let after = compare_step(faces, &step, &before).and_then(|answer| {
                 let untrimmed = twin.follow(&faces.judged, &before, &step, &answer)?;
-                let together = halves::ask(&faces.judged, *seed, &before, &step, &answer)?;
                 look(&Made {
                     before: &before,
                     step: &step,
                     answer: &answer,
                     untrimmed,
-                    together,
                 });
                 Ok(step.after(&before, &answer))
             });
@@ -97,8 +94,6 @@ pub struct Made<'a> {
     pub answer: &'a Answer,
     /// True where a twin without trims, which keeps more, tells the same.
     pub untrimmed: bool,
-    /// What the halves of an accepted cut were asked together.
-    pub together: Vec<Together>,
 }
 
 /// Makes one call through both sides. What both leave, or the first difference.

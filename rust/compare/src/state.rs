@@ -22,13 +22,8 @@ pub struct Run {
 impl Run {
     /// Where it ends.
     pub fn end(self) -> u64 {
-        self.end_of(self.count)
-    }
-
-    /// Where so many of its references end.
-    pub fn end_of(self, many: u64) -> u64 {
         self.start
-            .saturating_add(self.duration.saturating_mul(many))
+            .saturating_add(self.duration.saturating_mul(self.count))
     }
 }
 
@@ -59,11 +54,6 @@ pub struct State {
     pub greatest_clock: u64,
     /// Used runs.
     pub runs: Vec<Run>,
-}
-
-/// A number of milliseconds, or 0 where it is below.
-fn not_below_0(millis: i128) -> u64 {
-    millis.clamp(0, i128::from(u64::MAX)) as u64
 }
 
 impl State {
@@ -176,30 +166,9 @@ impl State {
 
     /// So many milliseconds past a tick's place, or at clock 0 where that lies before it.
     fn clock_past(&self, tick: u64, later: i128) -> u64 {
-        not_below_0(self.millis_to(tick) + i128::from(self.start) + later)
-    }
-
-    /// The whole milliseconds from the period start to a tick.
-    fn millis_to(&self, tick: u64) -> i128 {
         let timescale = i128::from(self.timescale.max(1));
-        self.place(tick).div_euclid(timescale)
-    }
-
-    /// Where a cut stands at a tick or just before it, or at the period start where the tick lies
-    /// before that.
-    pub fn cut_at(&self, tick: u64) -> u64 {
-        not_below_0(self.millis_to(tick))
-    }
-
-    /// Grains from a cut to a tick.
-    pub fn grains_past(&self, at: u64, tick: u64) -> i128 {
-        self.place(tick) - i128::from(at) * i128::from(self.timescale)
-    }
-
-    /// How many runs have references that end behind a cut.
-    pub fn runs_behind(&self, at: u64) -> usize {
-        let behind = |run: &&Run| self.grains_past(at, run.end()) > 0;
-        self.runs.iter().filter(behind).count()
+        let millis = self.place(tick).div_euclid(timescale) + i128::from(self.start) + later;
+        millis.clamp(0, i128::from(u64::MAX)) as u64
     }
 
     /// About the milliseconds from which and up to which the reference of a number is available,

@@ -8,27 +8,6 @@ use crate::opening::Opening;
 /// What stands in each word of an `out` before a call.
 pub const OUT_CAME: u64 = 5555;
 
-/// The halves of a cut.
-#[derive(Clone, Copy, Debug, PartialEq, Eq)]
-#[allow(missing_docs)]
-pub enum Half {
-    First,
-    Second,
-}
-
-/// A cut.
-#[derive(Clone, Copy, Debug, PartialEq, Eq)]
-pub struct Cut {
-    /// How many milliseconds after the period start.
-    pub at: u64,
-    /// How many words of a second record it is lent.
-    pub second_words: usize,
-    /// How many words of a second table it is lent.
-    pub other_words: usize,
-    /// The half that the next call is made on, where the cut is accepted.
-    pub goes_on: Half,
-}
-
 /// A call and its arguments.
 #[derive(Clone, Debug, PartialEq, Eq)]
 #[allow(missing_docs)]
@@ -53,7 +32,6 @@ pub enum Call {
     Trim {
         clock: u64,
     },
-    Split(Cut),
     Verdict {
         clock: u64,
     },
@@ -90,7 +68,6 @@ impl Call {
             Call::AppendStamp { .. } => "append_stamp",
             Call::AppendTrim { .. } => "append_trim",
             Call::Trim { .. } => "trim",
-            Call::Split(_) => "split",
             Call::Verdict { .. } => "verdict",
             Call::VerdictWhole => "verdict_whole",
             Call::Availability { .. } => "availability",
@@ -117,7 +94,7 @@ impl Call {
             }
             Call::Read { .. } => words::READ_WORDS,
             Call::Write { .. } => words::WRITE_WORDS,
-            Call::Open(_) | Call::Trim { .. } | Call::Split(_) => 0,
+            Call::Open(_) | Call::Trim { .. } => 0,
         }
     }
 
@@ -162,7 +139,7 @@ pub struct Damage {
 }
 
 /// A record and a table.
-#[derive(Clone, Debug, Default, PartialEq, Eq)]
+#[derive(Clone, Debug, PartialEq, Eq)]
 pub struct Lent {
     /// The words of the record.
     pub record: Vec<u64>,
@@ -173,13 +150,8 @@ pub struct Lent {
 impl Lent {
     /// Memory that holds no timeline yet, and is not 0 either.
     pub fn anything(table_words: usize) -> Self {
-        Lent::of_lengths(RECORD_WORDS, table_words)
-    }
-
-    /// The same with a record of any length.
-    fn of_lengths(record_words: usize, table_words: usize) -> Self {
         Lent {
-            record: vec![u64::MAX - 77; record_words],
+            record: vec![u64::MAX - 77; RECORD_WORDS],
             table: vec![99; table_words],
         }
     }
@@ -263,23 +235,21 @@ impl Step {
                 Call::Write { room } => vec![b'#'; room],
                 _ => Vec::new(),
             },
-            second: match self.call {
-                Call::Split(cut) => Lent::of_lengths(cut.second_words, cut.other_words),
-                _ => Lent::default(),
-            },
         };
         answer.number = answer.make(face, &self.call);
         answer
     }
 
     /// The memory after the call: what it left, unless memory was changed for it alone and it was
-    /// refused. Of an accepted cut it is one of the halves.
+    /// refused.
     pub fn after(&self, before: &Lent, answer: &Answer) -> Lent {
-        let refused = answer.number != 0;
-        match self.call {
-            _ if refused && self.spoils_memory() => before.clone(),
-            Call::Split(cut) if !refused && cut.goes_on == Half::Second => answer.second.clone(),
-            _ => answer.first(),
+        if self.spoils_memory() && answer.number != 0 {
+            before.clone()
+        } else {
+            Lent {
+                record: answer.record.clone(),
+                table: answer.table.clone(),
+            }
         }
     }
 }
@@ -297,8 +267,6 @@ pub struct Answer {
     pub out: Vec<u64>,
     /// The output of a writing.
     pub bytes: Vec<u8>,
-    /// The second record and table of a cut.
-    pub second: Lent,
 }
 
 impl Answer {
@@ -323,10 +291,6 @@ impl Answer {
                 clock,
             } => (face.append_trim)(record, table, *stamp, *duration, *count, *clock, out),
             Call::Trim { clock } => (face.trim)(record, table, *clock),
-            Call::Split(cut) => {
-                let second = &mut self.second;
-                (face.split)(record, table, cut.at, &mut second.record, &mut second.table)
-            }
             Call::Verdict { clock } => (face.verdict)(record, table, *clock, out),
             Call::VerdictWhole => (face.verdict_whole)(record, table, out),
             Call::Availability { number } => {
@@ -343,14 +307,6 @@ impl Answer {
             Call::Touching { a, b } => (face.touching)(record, table, *a, *b, out),
             Call::Read { bytes } => (face.read)(bytes, record, table, out),
             Call::Write { .. } => (face.write)(record, table, &mut self.bytes, out),
-        }
-    }
-
-    /// The record and the table that every call is lent.
-    pub fn first(&self) -> Lent {
-        Lent {
-            record: self.record.clone(),
-            table: self.table.clone(),
         }
     }
 
@@ -371,12 +327,9 @@ impl Answer {
         if self.number != other.number {
             return Some(format!("number: {} and {}", self.number, other.number));
         }
-        let (second, others) = (&self.second, &other.second);
         let widen = |bytes: &[u8]| -> Vec<u64> { bytes.iter().map(|b| u64::from(*b)).collect() };
         differing("record word", &self.record, &other.record)
             .or_else(|| differing("table word", &self.table, &other.table))
-            .or_else(|| differing("second record word", &second.record, &others.record))
-            .or_else(|| differing("second table word", &second.table, &others.table))
             .or_else(|| differing("out word", &self.out, &other.out))
             .or_else(|| differing("byte", &widen(&self.bytes), &widen(&other.bytes)))
     }

@@ -1,4 +1,4 @@
-//! A twin: a timeline that gets what another one gets, its cuts too, but for its trims.
+//! A twin: a timeline that gets what another one gets, but for its trims.
 //!
 //! Trimming costs no coverage. So both must tell the same at every clock that is not before the
 //! greatest one of the trims, and of every number that is still kept. Not asked is what a trim may
@@ -9,7 +9,7 @@ use flonterri::words::RUN_WORDS;
 use crate::face::Face;
 use crate::random::appends;
 use crate::state::State;
-use crate::step::{Answer, Call, Cut, Lent, Step};
+use crate::step::{Answer, Call, Lent, Step};
 
 /// Words of a twin's table: 80 runs. A sequence has 60 steps at most, and an append adds a run at
 /// most; only a file that was read can need more.
@@ -40,7 +40,6 @@ impl Twin {
             | (Call::CoveredEdge | Call::Availability { .. } | Call::AvailableAt { .. }, 0) => {
                 return self.ask(face, before, step, answer);
             }
-            (Call::Split(cut), 0) => self.split(face, *cut)?,
             (call, 0) => {
                 if let Some((duration, count)) = call.given() {
                     self.append(face, duration, count)?;
@@ -51,29 +50,14 @@ impl Twin {
         Ok(false)
     }
 
-    /// Splits too, and goes on in the same half.
-    fn split(&mut self, face: &Face, cut: Cut) -> Result<(), String> {
-        let cut = Cut {
-            other_words: TABLE_WORDS,
-            ..cut
-        };
-        match self.0.take() {
-            Some(lent) => self.make(face, Call::Split(cut), &lent),
-            None => Ok(()),
-        }
-    }
-
-    /// Appends at the twin's own next tick. It gives up where the plain side could not store that, and
-    /// where it comes to the limit of accepted references first: a cut has both count anew what they
-    /// keep, and the twin keeps more.
+    /// Appends at the twin's own next tick. It gives up where the plain side could not store that.
     fn append(&mut self, face: &Face, duration: u32, count: u32) -> Result<(), String> {
         let lent = match self.0.take() {
             Some(lent) => lent,
             None => return Ok(()),
         };
         let state = State::of(&lent);
-        let is_over = state.passes_limits(duration, u64::from(count));
-        if is_over || !appends::is_light(&state, duration, count) {
+        if !appends::is_light(&state, duration, count) {
             return Ok(());
         }
         let start = state.next_tick;
@@ -126,7 +110,7 @@ impl Twin {
                 "{} and its twin without trims differ in {}",
                 face.name, difference
             )),
-            None => Ok(State::of(lent).kept() > State::of(before).kept()),
+            None => Ok(State::of(lent).dropped < State::of(before).dropped),
         }
     }
 }

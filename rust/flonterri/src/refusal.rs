@@ -61,12 +61,6 @@ pub enum Refusal {
     NoEndToReach,
     /// 19: the whole period is asked for and its end is unknown.
     EndUnknown,
-    /// 22: a cut at 0 or not below a known duration, or the second half would start over its limit.
-    CutOutside,
-    /// 23: a cut within a tick, or the second half's offset would lie over the largest tick.
-    CutOffTick,
-    /// 24: a half of the cut would keep no reference.
-    EmptyHalf,
 }
 
 impl Refusal {
@@ -79,7 +73,7 @@ impl Refusal {
         self.number_and_message().0
     }
 
-    /// The refusal of a number, if there is one: 20 and 21 are none yet. The distance is what a call of
+    /// The refusal of a number, if there is one. The distance is what a call of
     /// [`words`](crate::words) has put into its `out`; it is kept with 4 and 5, and with no other.
     ///
     /// ```
@@ -111,9 +105,6 @@ impl Refusal {
             17 => Refusal::BadOrder,
             18 => Refusal::NoEndToReach,
             19 => Refusal::EndUnknown,
-            22 => Refusal::CutOutside,
-            23 => Refusal::CutOffTick,
-            24 => Refusal::EmptyHalf,
             _ => return None,
         })
     }
@@ -173,15 +164,6 @@ impl Refusal {
             ),
             Refusal::NoEndToReach => (18, "a negative r, and the period end is unknown"),
             Refusal::EndUnknown => (19, "the period end is unknown"),
-            Refusal::CutOutside => (
-                22,
-                "the cut is not inside the period, or the second half starts over its limit",
-            ),
-            Refusal::CutOffTick => (
-                23,
-                "the cut is within a tick, or the second half's offset is over the largest tick",
-            ),
-            Refusal::EmptyHalf => (24, "a half of the cut keeps no reference"),
         }
     }
 

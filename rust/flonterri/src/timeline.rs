@@ -291,63 +291,6 @@ impl Timeline {
         })
     }
 
-    /// Splits the period so many milliseconds after its start, as where an advert is to stand. This
-    /// timeline becomes the first half, and the second half is given back, with room for as many runs.
-    ///
-    /// The first period then lasts up to the cut. The second starts there, has the tick that stands
-    /// there as its offset, and lasts for the rest; where the end is unknown, it stays so. Each half
-    /// keeps the references that start before its end and that some window of it can still need. One
-    /// that lies over the cut is in both. Numbers and availability stay. From the greatest clock on, what
-    /// the two need adds up to what the whole would, and so does what they cover. No append joins the
-    /// first half any more.
-    ///
-    /// Refusals [`CutOutside`](Refusal::CutOutside), [`CutOffTick`](Refusal::CutOffTick),
-    /// [`EmptyHalf`](Refusal::EmptyHalf), in this order. Never [`NoRunLeft`](Refusal::NoRunLeft): no half
-    /// has more runs than the whole.
-    ///
-    /// ```
-    /// # use flonterri::{Head, Millis, Number, Refusal, Span, Tick, Timeline, Timescale};
-    /// # fn main() -> Result<(), flonterri::OpenError> {
-    /// let head = Head {
-    ///     depth: Millis(10_000),
-    ///     first_number: Number(1),
-    ///     ..Head::new(Timescale(1000))
-    /// };
-    /// let mut timeline = Timeline::open(head, Tick(0), 10)?;
-    /// timeline.append(Tick(0), Span(4000), 5)?;
-    ///
-    /// // An advert at ten seconds: numbers 1 to 3 stand before it, 3 to 5 behind.
-    /// let mut behind = timeline.split(Millis(10_000))?;
-    /// assert_eq!((timeline.first_kept_number(), timeline.accepted()), (Number(1), 3));
-    /// assert_eq!((behind.first_kept_number(), behind.accepted()), (Number(3), 3));
-    /// assert_eq!(timeline.head().duration, Millis(10_000));
-    /// assert_eq!((behind.head().start, behind.head().offset), (Millis(10_000), Tick(10_000)));
-    ///
-    /// // At 14 s the window is the last 10 s: 6 s of it before the advert, 4 s behind.
-    /// assert_eq!(timeline.verdict(Millis(14_000))?.to_string(), "complete 6000/6000 100%");
-    /// assert_eq!(behind.verdict(Millis(14_000))?.to_string(), "complete 4000/4000 100%");
-    ///
-    /// // The packager goes on in the second half.
-    /// behind.append(Tick(20_000), Span(4000), 1)?;
-    /// assert_eq!(timeline.append(Tick(12_000), Span(4000), 1), Err(Refusal::PastEnd));
-    /// # Ok(())
-    /// # }
-    /// ```
-    pub fn split(&mut self, at: Millis) -> Result<Timeline, Refusal> {
-        let mut behind = Timeline {
-            record: [0; RECORD_WORDS],
-            table: vec![0; self.table.len()],
-        };
-        Refusal::judge(words::split(
-            &mut self.record,
-            &mut self.table,
-            at.0,
-            &mut behind.record,
-            &mut behind.table,
-        ))?;
-        Ok(behind)
-    }
-
     /// Makes room for so many runs in all: the same references, and more zeros behind them. Where
     /// there is as much room already, nothing changes. [`NoMemory`](OpenError::NoMemory) for so
     /// many runs, which changes nothing either; it is never refused.

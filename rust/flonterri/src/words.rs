@@ -9,9 +9,9 @@
 //! [`run_word`] tells. Words of any value and slices of any length are taken: what cannot be a
 //! timeline is refused.
 //!
-//! Before all else a record that is not of 12 words is 2, then so is a `second` of [`split`], and then
-//! an `out` that is not of its length is 15; all leave memory as it came. What a call changes where it
-//! is refused with another number stands beside it.
+//! Before all else a record that is not of 12 words is 2, and then an `out` that is not of its
+//! length is 15; both leave all memory as it came. What a call changes where it is refused with
+//! another number stands beside it.
 
 /// Words of a record.
 pub const RECORD_WORDS: usize = 12;
@@ -355,33 +355,6 @@ calls! {
         count: u32,
         clock: u64,
         out: &mut [u64],
-    );
-
-    /// Splits a timeline `at` milliseconds after its period start. Record and table become the first
-    /// half, `second` and `other` the second one, whatever they held.
-    ///
-    /// Refusals 2, 22, 23, 24, 9, in this order; each leaves record, table and `other` as they came and
-    /// zeroes `second`. And 2 for the length of either record, which leaves `second` too as it came.
-    ///
-    /// ```
-    /// use flonterri::words::{self, word, RECORD_WORDS};
-    ///
-    /// let (mut record, mut table) = ([0; RECORD_WORDS], [0; 30]);
-    /// assert_eq!(words::open(&mut record, &mut table, 1000, 0, 0, 0, 10_000, 1, 0, 0), 0);
-    /// assert_eq!(words::append(&mut record, &mut table, 0, 4000, 5, &mut [0]), 0);
-    /// let (mut second, mut other) = ([7; RECORD_WORDS], [7; 4]);
-    /// assert_eq!(words::split(&mut record, &mut table, 0, &mut second, &mut other), 22);
-    /// assert_eq!((second, other), ([0; RECORD_WORDS], [7; 4]));
-    /// assert_eq!(words::split(&mut record, &mut table, 10_000, &mut second, &mut other), 0);
-    /// assert_eq!((table[..3].to_vec(), other), (vec![0, 4000, 3], [8000, 4000, 3, 0]));
-    /// assert_eq!((record[word::FIRST_NUMBER], second[word::FIRST_NUMBER]), (1, 3));
-    /// ```
-    fn split = flonterri_split(
-        record: &mut [u64],
-        table: &mut [u64],
-        at: u64,
-        second: &mut [u64],
-        other: &mut [u64],
     );
 
     /// The verdict at a clock, over the window that ends at the clock plus the update period. `out` is

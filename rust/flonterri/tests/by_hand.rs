@@ -619,160 +619,10 @@ fn a_distance_of_another_length() {
     assert_eq!((record, table, out), ([9; RECORD_WORDS], [9; 3], [77; 2]));
 }
 
-/// Case B trimmed at a clock and cut: of each half the first number, and how many it has accepted and
-/// dropped.
-fn cut_of_b(clock: u64, at: u64) -> Result<[(u32, u64, u64); 2], OpenError> {
-    let mut first = case_b()?;
-    first.trim(Millis(clock))?;
-    let before = first.clone();
-    let second = first.split(Millis(at)).map_err(|refusal| {
-        assert_eq!(first, before);
-        refusal
-    })?;
-    let counts = |half: &Timeline| {
-        let number = half.head().first_number.0;
-        (number, half.accepted(), half.dropped())
-    };
-    Ok([counts(&first), counts(&second)])
-}
-
-#[test]
-fn b_cut_in_two() {
-    let refused = |refusal| Err(OpenError::Refused(refusal));
-    assert_eq!(cut_of_b(0, 10_000), Ok([(1, 3, 0), (3, 3, 0)]));
-    assert_eq!(cut_of_b(20_000, 10_000), refused(Refusal::EmptyHalf));
-    assert_eq!(cut_of_b(20_000, 10_001), Ok([(3, 1, 0), (3, 3, 0)]));
-    assert_eq!(cut_of_b(18_000, 12_000), Ok([(3, 1, 0), (4, 2, 0)]));
-    assert_eq!(cut_of_b(14_000, 12_000), Ok([(2, 2, 0), (4, 2, 0)]));
-    assert_eq!(cut_of_b(0, 20_000), refused(Refusal::EmptyHalf));
-    for at in [0, Millis::LARGEST.0 + 1, u64::MAX] {
-        assert_eq!(cut_of_b(0, at), refused(Refusal::CutOutside));
-    }
-}
-
-/// What a cut changes of a head: two durations, a start and an offset.
-#[test]
-fn heads_of_a_cut() -> Outcome {
-    let head = Head {
-        offset: Tick(100),
-        start: Millis(30_000),
-        duration: Millis(10_000),
-        depth: Millis(60_000),
-        first_number: Number(7),
-        update: Millis(2_000),
-        ..Head::new(Timescale(10))
-    };
-    let mut first = Timeline::open(head, Tick(100), 2)?;
-    first.append(Tick(100), Span(40), 2)?;
-    assert_eq!(first.split(Millis(10_000)), Err(Refusal::CutOutside));
-    assert_eq!(first.split(Millis(4_050)), Err(Refusal::CutOffTick));
-    let second = first.split(Millis(4_100))?;
-    let duration = Millis(4_100);
-    assert_eq!(first.head(), Head { duration, ..head });
-    let behind = Head {
-        offset: Tick(141),
-        start: Millis(34_100),
-        duration: Millis(5_900),
-        first_number: Number(8),
-        ..head
-    };
-    assert_eq!(second.head(), behind);
-    assert_eq!(
-        (first.next_tick(), second.next_tick()),
-        (Tick(180), Tick(180))
-    );
-    assert_eq!((first.capacity(), second.capacity()), (2, 2));
-    let alike = second.availability(Number(8))?;
-    assert_eq!(first.availability(Number(8))?, alike);
-    Ok(())
-}
-
-#[test]
-fn a_cut_at_the_limits() -> Outcome {
-    let late = Head {
-        start: Millis(Millis::LARGEST.0 - 4_000),
-        ..Head::new(Timescale(1000))
-    };
-    let high = Head {
-        offset: Tick(Tick::LARGEST.0 - 8_000),
-        ..Head::new(Timescale(1000))
-    };
-    for (head, at, refusal) in [
-        (late, 4_000, None),
-        (late, 4_001, Some(Refusal::CutOutside)),
-        // A sum of 64 bits would come round to 0.
-        (late, late.start.0.wrapping_neg(), Some(Refusal::CutOutside)),
-        (high, 7_999, None),
-        (high, 8_000, Some(Refusal::EmptyHalf)),
-        (high, 8_001, Some(Refusal::CutOffTick)),
-    ] {
-        let mut timeline = Timeline::open(head, head.offset, 1)?;
-        timeline.append(head.offset, Span(4000), 2)?;
-        assert_eq!(timeline.split(Millis(at)).err(), refusal, "at {}", at);
-    }
-    Ok(())
-}
-
-/// Each run of the whole is in a half or in both, so that a table that was enough is so for each half.
-#[test]
-fn a_cut_of_a_full_table() -> Outcome {
-    let mut first = Timeline::open(Head::new(Timescale(1000)), Tick(0), 3)?;
-    for (start, duration) in [(0, 10), (10, 20), (30, 30)] {
-        first.append(Tick(start), Span(duration), 1)?;
-    }
-    let mut second = first.split(Millis(5))?;
-    assert_eq!((first.runs_used(), second.runs_used()), (1, 3));
-    let third = second.split(Millis(15))?;
-    assert_eq!((second.runs_used(), third.runs_used()), (2, 2));
-    assert_eq!(third.first_kept_number(), Number(1));
-    Ok(())
-}
-
-/// What a cut leaves: refused, all but a zeroed second record; by a length, that one too.
-#[test]
-fn words_of_a_cut() -> Outcome {
-    let timeline = case_b()?;
-    let (came, table_came) = (*timeline.record_words(), timeline.table_words());
-    let zero = [0; RECORD_WORDS];
-    for (at, other_words, number) in [(0, 3, 22), (20_000, 3, 24), (10_000, 2, 9)] {
-        let (mut record, mut table) = (came, table_came.to_vec());
-        let (mut second, mut other) = ([9; RECORD_WORDS], vec![9; other_words]);
-        let answer = words::split(&mut record, &mut table, at, &mut second, &mut other);
-        assert_eq!((answer, record, second), (number, came, zero));
-        assert_eq!((&table[..], other), (table_came, vec![9; other_words]));
-    }
-    let (mut record, mut table) = (came, table_came.to_vec());
-    let (mut second, mut other) = ([9; RECORD_WORDS], [9; 5]);
-    for short in [&mut record[1..], &mut [9; RECORD_WORDS + 1]] {
-        let answer = words::split(short, &mut table, 10_000, &mut second, &mut other);
-        assert_eq!((answer, second, other), (2, [9; RECORD_WORDS], [9; 5]));
-    }
-    let answer = words::split(
-        &mut record,
-        &mut table,
-        10_000,
-        &mut second[1..],
-        &mut other,
-    );
-    assert_eq!((answer, second, other), (2, [9; RECORD_WORDS], [9; 5]));
-    record[word::NEXT_TICK] += 1;
-    let answer = words::split(&mut record, &mut table, 10_000, &mut second, &mut other);
-    assert_eq!((answer, second, other), (2, zero, [9; 5]));
-    let answer = words::split(
-        &mut came.clone(),
-        &mut table,
-        10_000,
-        &mut second,
-        &mut other,
-    );
-    assert_eq!((answer, other), (0, [8000, 4000, 3, 0, 0]));
-    Ok(())
-}
-
 #[test]
 fn refusals_have_their_numbers() {
     let distance = Distance(9);
-    for number in (1..=19).chain(22..=24) {
+    for number in 1..=19 {
         let refusal = Refusal::from_number(number, distance).expect("a refusal");
         assert_eq!(refusal.number(), number);
         let far = number == 4 || number == 5;
@@ -781,7 +631,6 @@ fn refusals_have_their_numbers() {
         let shown = format!("refusal {}: {}{}", number, refusal.message(), by);
         assert_eq!(refusal.to_string(), shown);
     }
-    for number in [0, 20, 21, 25] {
-        assert_eq!(Refusal::from_number(number, distance), None);
-    }
+    assert_eq!(Refusal::from_number(0, distance), None);
+    assert_eq!(Refusal::from_number(20, distance), None);
 }

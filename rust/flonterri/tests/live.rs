@@ -265,46 +265,6 @@ fn one_call_with_an_earlier_clock() -> Outcome {
     Ok(())
 }
 
-/// Needed and covered ticks at a clock.
-fn ticks_at(timeline: &Timeline, clock: Millis) -> Result<(u64, u64), Refusal> {
-    Ok(match timeline.verdict(clock)? {
-        Verdict::NothingNeeded => (0, 0),
-        Verdict::Complete { needed } => (needed, needed),
-        Verdict::Lacking {
-            needed, covered, ..
-        } => (needed, covered),
-    })
-}
-
-/// A channel that is cut at an advert and goes on in its second half: at every clock the halves tell
-/// together what the channel tells that was never cut, and the first half is spent at last.
-#[test]
-fn on_after_an_advert() -> Outcome {
-    let mut whole = Timeline::open(ten_seconds(), Tick(0), 10)?;
-    for segment in 0..5 {
-        let (stamp, end) = (Stamp(segment * 4000), u64::from(segment + 1) * 4000);
-        whole.append_trim(stamp, Span(4000), 1, Millis(end))?;
-    }
-    let mut before = whole.clone();
-    let mut behind = before.split(Millis(14_000))?;
-    for segment in 5..10 {
-        let (stamp, end) = (Stamp(segment * 4000), u64::from(segment + 1) * 4000);
-        for timeline in [&mut whole, &mut behind] {
-            timeline.append_trim(stamp, Span(4000), 1, Millis(end))?;
-        }
-        before.trim(Millis(end))?;
-        for clock in (end..end + 4000).step_by(777).map(Millis) {
-            let (one, other) = (ticks_at(&before, clock)?, ticks_at(&behind, clock)?);
-            let both = (one.0 + other.0, one.1 + other.1);
-            assert_eq!(both, ticks_at(&whole, clock)?);
-        }
-        assert_eq!(behind.next_number(), whole.next_number());
-    }
-    assert_eq!(before.runs_used(), 0);
-    assert_eq!(behind.first_kept_number(), whole.first_kept_number());
-    Ok(())
-}
-
 /// What the three calls leave where they are refused, and the lengths that they take.
 #[test]
 fn words_of_edge_full_tick_and_available() {

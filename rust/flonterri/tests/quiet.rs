@@ -86,18 +86,6 @@ fn calls_that_change() {
 }
 
 #[test]
-fn a_cut() {
-    let (last, middle) = (u64::from(MOST), 1_000_000_000);
-    let cut = |(mut record, mut table): Words| {
-        let (mut second, mut other) = ([7; RECORD_WORDS], [7; 3]);
-        let number = words::split(&mut record, &mut table, middle, &mut second, &mut other);
-        (number, table[2], second[word::FIRST_NUMBER], other)
-    };
-    let behind = [middle, 1, last - middle];
-    assert_eq!(soon(|| cut(filled())), (0, middle, middle, behind));
-}
-
-#[test]
 fn calls_that_look() {
     let (record, table) = filled();
     let (last, ahead) = (u64::from(MOST) - 1, u64::from(MOST));

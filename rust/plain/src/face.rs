@@ -7,8 +7,8 @@
 //!
 //! On another refusal `out` stays as it came, but for a refused reading, which tells the line and
 //! the distance, and for an append that is 4 or 5, which tells the distance. Opening refused: record
-//! zeroed, table as it came. Reading refused: record and table zeroed. Splitting refused: second record
-//! zeroed. Any other refused call changes no record and no table.
+//! zeroed, table as it came. Reading refused: record and table zeroed. Any other refused call
+//! changes no record and no table.
 
 use crate::availability::Availability;
 use crate::file;
@@ -155,31 +155,6 @@ pub fn append_trim(
     change_or_tell(record, table, out, |timeline| {
         timeline.append_trim(stamp, duration, count, clock)
     })
-}
-
-/// Splits. Record and table become the first half, `second` and `other` the second, whatever they held.
-/// Refusals 2, 22, 23, 24, 9, in this order. A second record of another length is 2, behind the first's
-/// and before all else.
-pub fn split(
-    record: &mut [u64],
-    table: &mut [u64],
-    at: u64,
-    second: &mut [u64],
-    other: &mut [u64],
-) -> u32 {
-    if record.len() != RECORD_WORDS || second.len() != RECORD_WORDS {
-        return Refusal::Disagree.number();
-    }
-    let mut behind = None;
-    let outcome = change(record, table, |timeline| {
-        behind = Some(timeline.split(at, capacity(other.len()))?);
-        Ok(())
-    });
-    match behind {
-        Some(half) => encode(&half, second, other),
-        None => second.fill(0),
-    }
-    number_of(outcome)
 }
 
 /// Asks a timeline and puts the answer's words into `out`; a refusal leaves `out` as it came.

@@ -11,7 +11,6 @@
 //! | [`mod@reference`] | "Record and table" (references and runs) |
 //! | [`window`] | "Window, needed, spent" |
 //! | [`timeline`] | "Append and trim", opening |
-//! | [`split`] | request W-204 |
 //! | [`record`] | "Record and table" (words and their agreement) |
 //! | [`verdict`] | "Verdict and availability" (verdicts, percent) |
 //! | [`availability`] | "Verdict and availability" (availability) |
@@ -32,7 +31,6 @@ pub mod file;
 pub mod record;
 pub mod reference;
 pub mod refusal;
-pub mod split;
 pub mod timeline;
 pub mod touching;
 pub mod units;

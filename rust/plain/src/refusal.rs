@@ -21,8 +21,7 @@ pub enum Refusal {
     TooMany,
     /// 8: a reference starts at or after a known period end.
     StartsPastPeriod,
-    /// 9: a stored part needs a new run and used runs equal capacity, or a table lacks the runs of its
-    /// half.
+    /// 9: a stored part needs a new run and used runs equal capacity.
     TableFull,
     /// 10: clock over its limit.
     ClockOverLimit,
@@ -45,12 +44,6 @@ pub enum Refusal {
     NegativeWithoutEnd,
     /// 19: whole-period verdict, end unknown.
     EndUnknown,
-    /// 22: a cut at 0, not below a known duration, or where the moved start is over its limit.
-    CutOutside,
-    /// 23: a cut that is no whole number of ticks, or where the new offset is over its limit.
-    CutOffTick,
-    /// 24: a half keeps nothing.
-    EmptyHalf,
 }
 
 impl Refusal {
@@ -76,9 +69,6 @@ impl Refusal {
             Refusal::OutOfOrder => 17,
             Refusal::NegativeWithoutEnd => 18,
             Refusal::EndUnknown => 19,
-            Refusal::CutOutside => 22,
-            Refusal::CutOffTick => 23,
-            Refusal::EmptyHalf => 24,
         }
     }
 

@@ -2,7 +2,6 @@
 
 use flonterri::words::word;
 
-use super::cuts;
 use super::said::{accepted, gap, out, overlap, refused, Said};
 use super::{old_worked_file, CASE_A, CASE_B, CASE_B_UPDATE, CASE_C, CASE_D, WORKED_FILE};
 use crate::face::Faces;
@@ -12,20 +11,16 @@ use crate::step::{Call, Lent, Step, OUT_CAME};
 use crate::text::{bytes_of, Line, ALL_ONES};
 
 /// A case: an opening, and calls with what the paper says of each.
-pub struct Case {
-    /// What reports call it.
-    pub name: &'static str,
-    /// What its timeline is opened with.
-    pub opening: Opening,
-    /// The calls.
-    pub calls: Vec<(Call, Said)>,
+struct Case {
+    name: &'static str,
+    opening: Opening,
+    calls: Vec<(Call, Said)>,
 }
 
 /// Words of the table in every case.
-pub const TABLE_WORDS: usize = 30;
+const TABLE_WORDS: usize = 30;
 
-/// An append by full tick.
-pub fn append(start: u64, duration: u32, count: u32) -> Call {
+fn append(start: u64, duration: u32, count: u32) -> Call {
     Call::Append {
         start,
         duration,
@@ -50,13 +45,11 @@ fn append_trim(stamp: u32, duration: u32, clock: u64) -> Call {
     }
 }
 
-/// A trim.
-pub fn trim(clock: u64) -> Call {
+fn trim(clock: u64) -> Call {
     Call::Trim { clock }
 }
 
-/// A verdict at a clock.
-pub fn verdict(clock: u64) -> Call {
+fn verdict(clock: u64) -> Call {
     Call::Verdict { clock }
 }
 
@@ -509,7 +502,6 @@ fn cases() -> Vec<Case> {
     cases.extend(case_b_update());
     cases.extend(update_at_its_limit());
     cases.extend(cut_by_the_period_end());
-    cases.extend(cuts::cases());
     cases
 }
 

@@ -1,9 +1,8 @@
 //! The cases that the paper gives with their answers: "By hand", the worked file, the window of
-//! "Window, needed, spent", and "Errors we expect someone to make"; and cuts of its case B. Each goes
-//! through both sides or through the program, and is held to what the paper says.
+//! "Window, needed, spent", and "Errors we expect someone to make". Each goes through both sides
+//! and through the program, and is held to what the paper says.
 
 mod calls;
-mod cuts;
 mod inputs;
 mod said;
 

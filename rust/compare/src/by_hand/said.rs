@@ -9,8 +9,6 @@ pub struct Said {
     out: Option<Vec<u64>>,
     record: Vec<(usize, u64)>,
     front: Option<Vec<u64>>,
-    second: Vec<(usize, u64)>,
-    second_front: Option<Vec<u64>>,
     written: Option<Vec<u8>>,
 }
 
@@ -61,18 +59,6 @@ impl Said {
         self
     }
 
-    /// And this word of the second record.
-    pub fn second(mut self, at: usize, word: u64) -> Said {
-        self.second.push((at, word));
-        self
-    }
-
-    /// And these words at the front of the second table, with zeros behind.
-    pub fn second_front(mut self, words: &[u64]) -> Said {
-        self.second_front = Some(words.to_vec());
-        self
-    }
-
     /// And this file written.
     pub fn written(mut self, file: &[u8]) -> Said {
         self.written = Some(file.to_vec());
@@ -89,35 +75,25 @@ impl Said {
                 return Some(format!("out {:?}, not {:?}", answer.out, out));
             }
         }
-        let second = &answer.second;
-        let written = || match &self.written {
+        for (at, word) in &self.record {
+            if answer.record[*at] != *word {
+                let found = answer.record[*at];
+                return Some(format!("record word {}: {}, not {}", at, found, word));
+            }
+        }
+        if let Some(front) = &self.front {
+            let mut table = front.clone();
+            table.resize(answer.table.len(), 0);
+            if answer.table != table {
+                return Some(format!("table {:?}, not {:?}", answer.table, table));
+            }
+        }
+        match &self.written {
             Some(file) if !answer.bytes.starts_with(file) => Some(format!(
                 "wrote {:?}",
                 String::from_utf8_lossy(&answer.bytes)
             )),
             _ => None,
-        };
-        words_differ(&self.record, &answer.record)
-            .or_else(|| front_differs(self.front.as_deref(), &answer.table))
-            .or_else(|| words_differ(&self.second, &second.record).map(of_second))
-            .or_else(|| front_differs(self.second_front.as_deref(), &second.table).map(of_second))
-            .or_else(written)
+        }
     }
-}
-
-/// The first word of a record that is another.
-fn words_differ(said: &[(usize, u64)], record: &[u64]) -> Option<String> {
-    let (at, word) = said.iter().find(|(at, word)| record[*at] != *word)?;
-    Some(format!("record word {}: {}, not {}", at, record[*at], word))
-}
-
-/// A table that has other words at its front, or no zeros behind them.
-fn front_differs(said: Option<&[u64]>, table: &[u64]) -> Option<String> {
-    let mut front = said?.to_vec();
-    front.resize(table.len(), 0);
-    Some(format!("table {:?}, not {:?}", table, front)).filter(|_| table != front)
-}
-
-fn of_second(difference: String) -> String {
-    format!("second {}", difference)
 }

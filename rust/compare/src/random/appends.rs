@@ -40,8 +40,6 @@ fn duration(generator: &mut Generator, state: &State) -> u32 {
         2 | 3 => state.timescale.saturating_mul(4).min(1 << 31) as u32,
         4 => generator.of_any_size() as u32,
         5..=20 => last,
-        // Frames of 30000/1001 a second and of audio: whole milliseconds are seldom at their bounds.
-        21 => generator.pick(&[1001, 1024, 2002]),
         _ => generator.between(1, 12) as u32,
     }
 }

@@ -62,13 +62,9 @@ fn when_spent(generator: &mut Generator, state: &State) -> u64 {
 
 /// About the moment at which an end of a run's references leaves the window, or its start.
 fn when_run_spent(generator: &mut Generator, state: &State, run: Run) -> u64 {
-    let tick = bound(generator, run);
+    let ended = generator.between(0, run.count.min(1 << 40));
+    let tick = run.start.saturating_add(run.duration.saturating_mul(ended));
     generator.near(state.clock_that_passes(tick))
-}
-
-/// An end of a run's references, or its start.
-pub fn bound(generator: &mut Generator, run: Run) -> u64 {
-    run.end_of(generator.between(0, run.count.min(1 << 40)))
 }
 
 /// About the moment at which the next tick comes into the window.

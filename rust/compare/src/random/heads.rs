@@ -75,7 +75,7 @@ fn small(generator: &mut Generator) -> Opening {
 fn live(generator: &mut Generator) -> Opening {
     let offset = generator.pick(&[0, 0, 1 << 33, 162_000_000_000]);
     Opening {
-        timescale: generator.pick(&[1000, 30_000, 44_100, 48_000, 90_000, 10_000_000]),
+        timescale: generator.pick(&[1000, 48_000, 90_000, 10_000_000]),
         offset,
         start: generator.pick(&[0, 3_600_000, 1_700_000_000]),
         duration: generator.pick(&[0, 0, 60_000, 3_600_000]),

@@ -2,7 +2,6 @@
 
 pub mod appends;
 pub mod clocks;
-pub mod cuts;
 pub mod damage;
 pub mod files;
 pub mod heads;

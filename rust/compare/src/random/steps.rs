@@ -5,7 +5,7 @@
 
 use crate::generator::Generator;
 use crate::limits;
-use crate::random::{appends, clocks, cuts, damage, files, heads};
+use crate::random::{appends, clocks, damage, files, heads};
 use crate::state::{Run, State};
 use crate::step::{Call, Lent, Step};
 use crate::weight;
@@ -21,7 +21,7 @@ const S_LINE: usize = 35;
 pub fn step(seed: u64, lent: &Lent, earlier: &[Vec<u64>]) -> Step {
     let mut generator = Generator::new(seed);
     let state = State::of(lent);
-    let mut step = Step::of(call(&mut generator, &state, lent.table.len()));
+    let mut step = Step::of(call(&mut generator, &state));
     match generator.below(60) {
         0 => step.record_words = generator.pick(&[0, 1, 11, 13, 24]),
         1 if step.out_words > 0 => {
@@ -53,11 +53,11 @@ fn is_light(call: &Call, state: &State) -> bool {
     })
 }
 
-fn call(generator: &mut Generator, state: &State, table_words: usize) -> Call {
+fn call(generator: &mut Generator, state: &State) -> Call {
     if (state.is_closed() && generator.percent(80)) || state.kept() > MOST_KEPT {
         return open_or_read(generator);
     }
-    match generator.below(57) {
+    match generator.below(52) {
         0 => open_or_read(generator),
         1..=13 => append(generator, state),
         14..=19 => append_stamp(generator, state),
@@ -77,7 +77,6 @@ fn call(generator: &mut Generator, state: &State, table_words: usize) -> Call {
         39 | 40 => Call::CoveredEdge,
         41 | 42 => full_tick(generator, state),
         43..=48 => append_trim(generator, state),
-        49..=53 => Call::Split(cuts::cut(generator, state, table_words)),
         _ => write(generator, state),
     }
 }

@@ -6,7 +6,7 @@ use crate::limits;
 use crate::lines::{head_of, refused_line};
 use crate::opening::Opening;
 use crate::sequence::{compare_step, Made};
-use crate::step::{Call, Cut, Half, Lent, Step};
+use crate::step::{Call, Lent, Step};
 use crate::tally::Tally;
 use crate::text::clock_line;
 
@@ -130,7 +130,6 @@ fn counted(table_words: usize, call: Call) -> String {
             step: &step,
             answer: &answer,
             untrimmed: false,
-            together: Vec::new(),
         };
         meet_call(&mut tally, &made);
         lent = step.after(&lent, &answer);
@@ -169,34 +168,6 @@ fn kinds_of_an_append_with_a_trim() {
     }
 }
 
-#[test]
-fn kinds_of_a_cut() {
-    let over = limits::MILLIS + 1;
-    for (table_words, at, second_words, other_words, kinds) in [
-        (3, 2000, 11, 3, vec!["2 second record"]),
-        (3, 0, 12, 3, vec!["22 at 0"]),
-        (3, over, 12, 3, vec!["22 start over its limit"]),
-        (3, 4000, 12, 3, vec!["24 all before the cut"]),
-        (0, 2000, 12, 3, vec!["24 nothing kept"]),
-        (3, 2000, 12, 2, vec!["9 no run"]),
-        (3, 2000, 12, 3, vec!["over a reference", "just the runs"]),
-        (3, 2000, 12, 5, vec!["within a run", "words left"]),
-        (3, 2000, 12, 6, vec!["unknown end", "runs left"]),
-        (3, 2000, 12, 6, vec!["never trimmed", "on in the first"]),
-    ] {
-        let call = Call::Split(Cut {
-            at,
-            second_words,
-            other_words,
-            goes_on: Half::First,
-        });
-        let counted = counted(table_words, call);
-        for kind in kinds {
-            assert!(counted.contains(&format!("  {} (1)", kind)), "{}", counted);
-        }
-    }
-}
-
 /// What a look with the record from before the last of some calls is counted as, in a window of ten seconds.
 fn counted_older(calls: &[Call]) -> String {
     let opening = Opening {
@@ -221,7 +192,6 @@ fn counted_older(calls: &[Call]) -> String {
         answer: &look.perform(&PLAIN, &lent),
         step: &look,
         untrimmed: false,
-        together: Vec::new(),
     };
     meet_call(&mut tally, &made);
     tally.to_string()

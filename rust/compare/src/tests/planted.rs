@@ -1,9 +1,9 @@
 //! Wrong sides, each wrong in one way, and whether random calls find it.
 
-use flonterri::words::{word, RECORD_WORDS};
+use flonterri::words::word;
 
 use crate::calls::random_calls;
-use crate::face::{Append, AppendStamp, AppendTrim, Face, Faces, Read, Split, Trim, PLAIN};
+use crate::face::{Append, AppendStamp, AppendTrim, Face, Faces, Read, Trim, PLAIN};
 use crate::generator::Generator;
 use crate::opening::Opening;
 use crate::sequence::Sequence;
@@ -233,186 +233,6 @@ fn an_append_with_a_trim_that_sets_the_clock_back() {
     found(pairing(append_trim), "record word 10");
 }
 
-/// A side that splits so, and is right besides.
-fn splitting(split: Split) -> Face {
-    Face { split, ..PLAIN }
-}
-
-/// What an accepted cut leaves, before anything else is done to it; else the number.
-fn accepted_then(
-    cut: (&mut [u64], &mut [u64], u64, &mut [u64], &mut [u64]),
-    change: impl FnOnce(&mut [u64], &mut [u64], &mut [u64], &mut [u64]),
-) -> u32 {
-    let (record, table, at, second, other) = cut;
-    let number = (PLAIN.split)(record, table, at, second, other);
-    if number == 0 {
-        change(record, table, second, other);
-    }
-    number
-}
-
-/// Takes the first reference out of a half that has another.
-fn without_first(record: &mut [u64], table: &mut [u64]) {
-    if table[2] > 1 {
-        table[0] += table[1];
-        table[2] -= 1;
-        record[word::FIRST_NUMBER] += 1;
-        record[word::ACCEPTED] -= 1;
-    }
-}
-
-#[test]
-fn a_reference_over_the_cut_that_is_in_the_first_half_alone() {
-    let split: Split = |record, table, at, second, other| {
-        accepted_then(
-            (record, table, at, second, other),
-            |record, _, second, other| {
-                if record[word::NEXT_TICK] > second[word::OFFSET] {
-                    without_first(second, other);
-                }
-            },
-        )
-    };
-    found(splitting(split), "second record word 5");
-}
-
-#[test]
-fn a_second_half_that_counts_its_numbers_from_the_first_number() {
-    let split: Split = |record, table, at, second, other| {
-        accepted_then(
-            (record, table, at, second, other),
-            |record, _, second, _| {
-                second[word::FIRST_NUMBER] = record[word::FIRST_NUMBER];
-            },
-        )
-    };
-    found(splitting(split), "second record word 5");
-}
-
-#[test]
-fn a_second_half_that_forgets_the_greatest_clock() {
-    let split: Split = |record, table, at, second, other| {
-        accepted_then((record, table, at, second, other), |_, _, second, _| {
-            second[word::GREATEST_CLOCK] = 0;
-        })
-    };
-    found(splitting(split), "second record word 10");
-}
-
-#[test]
-fn a_second_half_whose_unknown_end_is_taken_for_0() {
-    let split: Split = |record, table, at, second, other| {
-        let duration = record.get(word::DURATION).copied().unwrap_or(0);
-        accepted_then((record, table, at, second, other), |_, _, second, _| {
-            second[word::DURATION] = duration.wrapping_sub(at);
-        })
-    };
-    found(splitting(split), "second record word 3");
-}
-
-#[test]
-fn a_second_table_that_keeps_what_it_held() {
-    let split: Split = |record, table, at, second, other| {
-        let held = other.last().copied();
-        accepted_then((record, table, at, second, other), |_, _, second, other| {
-            if let (Some(held), true) = (held, other.len() as u64 / 3 > second[word::RUNS_USED]) {
-                let last = other.len() - 1;
-                other[last] = held;
-            }
-        })
-    };
-    found(splitting(split), "second table word ");
-}
-
-#[test]
-fn a_refused_cut_that_leaves_the_second_record() {
-    let split: Split = |record, table, at, second, other| {
-        let held = second.to_vec();
-        let number = (PLAIN.split)(record, table, at, second, other);
-        if number == 24 {
-            second.copy_from_slice(&held);
-        }
-        number
-    };
-    found(splitting(split), "second record word 0");
-}
-
-#[test]
-fn a_second_record_of_another_length_that_is_zeroed() {
-    let split: Split = |record, table, at, second, other| {
-        let number = (PLAIN.split)(record, table, at, second, other);
-        if second.len() != RECORD_WORDS {
-            second.fill(0);
-        }
-        number
-    };
-    found(splitting(split), "second record word 0");
-}
-
-#[test]
-fn a_cut_whose_start_comes_round() {
-    let split: Split = |record, table, at, second, other| {
-        let start = record.get(word::START).copied().unwrap_or(0);
-        match (PLAIN.split)(record, table, at, second, other) {
-            22 if record[word::DURATION] == 0 && start.checked_add(at).is_none() => 23,
-            number => number,
-        }
-    };
-    found(splitting(split), "number: 23 and 22");
-}
-
-#[test]
-fn a_cut_that_judges_room_first() {
-    let split: Split =
-        |record, table, at, second, other| match (PLAIN.split)(record, table, at, second, other) {
-            22..=24 if other.len() < 3 => 9,
-            number => number,
-        };
-    found(splitting(split), "number: 9 and 2");
-}
-
-/// The fault is found although both sides have it: the halves do not tell together what the whole told.
-fn found_by_halves(split: Split, difference: &str) {
-    let report = found_on_both(splitting(split));
-    assert!(report.contains(difference), "{}", report);
-}
-
-#[test]
-fn a_cut_that_loses_a_reference_on_both_sides() {
-    let split: Split = |record, table, at, second, other| {
-        accepted_then((record, table, at, second, other), |_, _, second, other| {
-            without_first(second, other);
-        })
-    };
-    found_by_halves(split, "planted needs and covers [");
-}
-
-#[test]
-fn a_cut_that_moves_the_offset_alone_on_both_sides() {
-    let split: Split = |record, table, at, second, other| {
-        accepted_then(
-            (record, table, at, second, other),
-            |record, _, second, _| {
-                second[word::START] = record[word::START];
-            },
-        )
-    };
-    found_by_halves(split, "planted needs and covers [");
-}
-
-#[test]
-fn a_cut_that_gives_numbers_anew_on_both_sides() {
-    let split: Split = |record, table, at, second, other| {
-        accepted_then(
-            (record, table, at, second, other),
-            |record, _, second, _| {
-                second[word::FIRST_NUMBER] = record[word::FIRST_NUMBER];
-            },
-        )
-    };
-    found_by_halves(split, " available ");
-}
-
 /// The bytes of a file without one of its lines, counted from 1.
 fn without_line(bytes: &[u8], line: u64) -> Vec<u8> {
     let lines = (1..).zip(bytes.split_inclusive(|byte| *byte == b'\n'));
@@ -482,19 +302,10 @@ fn a_trim_that_goes_by_the_clock_plus_the_update_period() {
 
 /// The fault is found although both sides have it: by a twin that is never trimmed.
 fn found_by_twin(trim: Trim, difference: &str) {
-    let report = found_on_both(Face { trim, ..PLAIN });
-    let differ = format!(
-        "planted and its twin without trims differ in {}",
-        difference
-    );
-    assert!(report.contains(&differ), "{}", report);
-}
-
-/// The report of a fault that both sides have.
-fn found_on_both(planted: Face) -> String {
     let planted = Face {
         name: "planted",
-        ..planted
+        trim,
+        ..PLAIN
     };
     let faces = Faces {
         judged: planted,
@@ -502,8 +313,13 @@ fn found_on_both(planted: Face) -> String {
     };
     let run = random_calls(&faces, 1, 0, CALLS, &mut Tally::default());
     let report = run.expect_err("a planted fault");
-    assert!(report.contains("again with --seed 1 --from "), "{}", report);
-    report
+    let differ = format!(
+        "planted and its twin without trims differ in {}",
+        difference
+    );
+    for said in [differ.as_str(), "again with --seed 1 --from "] {
+        assert!(report.contains(said), "{}", report);
+    }
 }
 
 #[test]

@@ -4,7 +4,7 @@ use crate::arguments::{Arguments, Part, SEED};
 use crate::generator::Generator;
 use crate::opening::Opening;
 use crate::shorten::shorten;
-use crate::step::{Answer, Call, Cut, Damage, Half, Lent, Place, Step};
+use crate::step::{Answer, Call, Damage, Lent, Place, Step};
 use crate::text::{bytes_of, head_fields, s_fields, shown, Line};
 use crate::weight::kept_by_reading;
 
@@ -15,10 +15,6 @@ fn answer() -> Answer {
         table: vec![3],
         out: vec![5, 6],
         bytes: vec![7],
-        second: Lent {
-            record: vec![8],
-            table: vec![9],
-        },
     }
 }
 
@@ -26,20 +22,12 @@ fn answer() -> Answer {
 fn answers_differ_in_every_part() {
     assert_eq!(answer().difference(&answer()), None);
     type Change = fn(&mut Answer);
-    let changes: [(Change, &str); 9] = [
+    let changes: [(Change, &str); 7] = [
         (|answer| answer.number = 5, "number: 4 and 5"),
         (|answer| answer.record[1] = 0, "record word 1: 2 and 0"),
         (|answer| answer.table[0] = 0, "table word 0: 3 and 0"),
         (|answer| answer.out[1] = 0, "out word 1: 6 and 0"),
         (|answer| answer.bytes[0] = 0, "byte 0: 7 and 0"),
-        (
-            |answer| answer.second.record[0] = 0,
-            "second record word 0: 8 and 0",
-        ),
-        (
-            |answer| answer.second.table[0] = 0,
-            "second table word 0: 9 and 0",
-        ),
         (|answer| answer.table.push(0), "table word of 1 and 2 words"),
         (|answer| answer.bytes.clear(), "byte of 1 and 0 words"),
     ];
@@ -72,35 +60,6 @@ fn damage_is_for_one_refused_call() {
         (2, 8, 9)
     );
     assert_eq!(step.after(&before, &answer), before);
-}
-
-#[test]
-fn an_accepted_cut_goes_on_in_a_half() {
-    let opened = |number| Lent {
-        record: vec![number],
-        table: Vec::new(),
-    };
-    let (before, first, second) = (opened(1), opened(2), opened(3));
-    let answer = |number| Answer {
-        number,
-        record: first.record.clone(),
-        table: first.table.clone(),
-        second: second.clone(),
-        ..answer()
-    };
-    for (goes_on, number, after) in [
-        (Half::First, 0, &first),
-        (Half::Second, 0, &second),
-        (Half::Second, 24, &first),
-    ] {
-        let step = Step::of(Call::Split(Cut {
-            at: 0,
-            second_words: 1,
-            other_words: 0,
-            goes_on,
-        }));
-        assert_eq!(step.after(&before, &answer(number)), *after);
-    }
 }
 
 #[test]

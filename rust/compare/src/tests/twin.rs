@@ -1,11 +1,11 @@
 //! What a twin follows, what it is asked, and where it gives up.
 
-use flonterri::words::{word, RECORD_WORDS};
+use flonterri::words::word;
 
 use crate::face::{Face, PLAIN};
 use crate::limits;
 use crate::opening::Opening;
-use crate::step::{Call, Cut, Damage, Half, Lent, Place, Step};
+use crate::step::{Call, Damage, Lent, Place, Step};
 use crate::twin::Twin;
 
 /// What the twin, through a side, tells of the last of some steps that the plain side makes.
@@ -45,16 +45,6 @@ fn trim() -> Step {
 
 fn verdict(clock: u64) -> Step {
     Step::of(Call::Verdict { clock })
-}
-
-/// A cut in the second of these references.
-fn split(goes_on: Half) -> Step {
-    Step::of(Call::Split(Cut {
-        at: 6000,
-        second_words: RECORD_WORDS,
-        other_words: 3,
-        goes_on,
-    }))
 }
 
 /// A look in a record with one word changed.
@@ -124,10 +114,6 @@ fn what_a_twin_follows() {
         (vec![open(), append(2), trim(), taken], false),
         (vec![open(), append(2), trim(), closed], false),
         (vec![open(), append(1_001), trim()], false),
-        (vec![open(), append(2), trim(), split(Half::First)], true),
-        (vec![open(), append(2), split(Half::First), trim()], true),
-        // The second half has what the twin's has: the reference over the cut.
-        (vec![open(), append(2), trim(), split(Half::Second)], false),
     ] {
         steps.push(verdict(14_001));
         assert_eq!(last_of(&PLAIN, &steps), Ok(follows), "{:?}", steps);

@@ -15,7 +15,7 @@ pub fn case_b() -> Lent {
     five_of_4000(CASE_B)
 }
 
-pub fn five_of_4000(head: HeadFields) -> Lent {
+fn five_of_4000(head: HeadFields) -> Lent {
     let mut lent = Lent::opened(head, 0, 30);
     assert_eq!(lent.append(0, 4000, 5), 0);
     lent

@@ -11,5 +11,4 @@ mod literal;
 mod orders;
 mod refusals;
 mod sequences;
-mod splits;
 mod support;

@@ -19,7 +19,6 @@ fn agreement_comes_before_all_else() {
     assert_eq!(lent.append_stamp(0, 0, 0), 2);
     assert_eq!(lent.trim(u64::MAX), 2);
     assert_eq!(lent.append_trim(0, 0, 0, u64::MAX), 2);
-    assert_eq!(lent.split(0, 0), Err(2));
     assert_eq!(lent.verdict(u64::MAX), Err(2));
     assert_eq!(lent.verdict_whole(), Err(2));
     assert_eq!(lent.availability(u64::MAX), Err(2));

@@ -73,19 +73,6 @@ fn append_trim() {
 }
 
 #[test]
-fn split() {
-    assert_eq!(damaged().split(10_000, 30), Err(2));
-    assert_eq!(case_b().split(0, 30), Err(22));
-    assert_eq!(Lent::opened(NUMBERED, 0, 30).split(1, 30), Err(24));
-    assert_eq!(case_b().split(10_000, 2), Err(9));
-    let slow = HeadFields {
-        timescale: 3,
-        ..CASE_B
-    };
-    assert_eq!(Lent::opened(slow, 0, 30).split(500, 30), Err(23));
-}
-
-#[test]
 fn trim() {
     assert_eq!(damaged().trim(0), 2);
     assert_eq!(case_b().trim(Millis::MAX + 1), 10);
@@ -224,11 +211,6 @@ fn a_record_of_another_length_is_2_and_changes_nothing() {
             assert_eq!(pair, 2);
         }
         assert_eq!(face::trim(&mut record, &mut table, u64::MAX), 2);
-        for words in [12, words] {
-            let (mut second, mut other) = (vec![5; words], [6; 3]);
-            let split = face::split(&mut record, &mut table, 0, &mut second, &mut other);
-            assert_eq!((split, second, other), (2, vec![5; words], [6; 3]));
-        }
         assert_eq!(face::verdict(&record, &table, u64::MAX, &mut out), 2);
         assert_eq!(face::verdict(&record, &table, 0, &mut out[..4]), 2);
         assert_eq!(face::verdict_whole(&record, &table, &mut out), 2);
@@ -247,22 +229,6 @@ fn a_record_of_another_length_is_2_and_changes_nothing() {
         assert_eq!(table, vec![8; 6]);
         assert_eq!((out, signed), ([9; 5], [9; 3]));
         assert_eq!(bytes, [b'#'; 200]);
-    }
-}
-
-#[test]
-fn a_second_record_of_another_length_is_2_and_changes_nothing() {
-    for words in [0, 1, 11, 13, 24] {
-        for lent in [case_b(), damaged()] {
-            let Lent {
-                mut record,
-                mut table,
-            } = lent.clone();
-            let (mut second, mut other) = (vec![5; words], [6; 30]);
-            let split = face::split(&mut record, &mut table, 10_000, &mut second, &mut other);
-            assert_eq!((split, second, other), (2, vec![5; words], [6; 30]));
-            assert_eq!(Lent { record, table }, lent);
-        }
     }
 }
 

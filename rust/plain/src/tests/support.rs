@@ -160,21 +160,6 @@ impl Lent {
         self.change(|record, table| face::trim(record, table, clock))
     }
 
-    /// Splits: what stays is the first half. The second half, in a table of so many words, or the
-    /// refusal.
-    pub fn split(&mut self, at: u64, other_words: usize) -> Result<Lent, u32> {
-        let mut second = Lent::anything(other_words);
-        let answer = self.change(|record, table| {
-            face::split(record, table, at, &mut second.record, &mut second.table)
-        });
-        if answer == 0 {
-            return Ok(second);
-        }
-        assert_eq!(second.record, vec![0; RECORD_WORDS]);
-        assert_eq!(second.table, Lent::anything(other_words).table);
-        Err(answer)
-    }
-
     pub fn verdict(&self, clock: u64) -> Result<[u64; 5], u32> {
         asked(5555, |out| {
             face::verdict(&self.record, &self.table, clock, out)
