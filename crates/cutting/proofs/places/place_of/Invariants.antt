@@ -2,12 +2,9 @@
 use Prim.Native.Nat.{◌+◌, ◌-◌, ◌≤◌}
 use mathlib.Core.Path.{◌≡◌}
 use lib.ListN.{length, take, drop}
-use borrow.Author.Rules.{rules}
 use Rattle.runs.specs.Words.{runs_of, references_of, kept_in}
 use Rattle.runs.specs.Steps.{passed_upto}
-use Rattle.runs.proofs.Walking.{words_fit, place_there, span_lasts, passed_fits, passed_more}
 use Rattle.cutting.specs.Steps.{begun_before}
-use Rattle.cutting.proofs.Placing.{run_ends, begun_more, counted_more, placed_first, placed_here, placed_last}
 use Rattle.cutting.proofs.places.place_of.Given as goal
 
 abbrev pub invariant-loop-whole : goal.invariant-loop-whole

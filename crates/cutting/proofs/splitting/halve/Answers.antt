@@ -4,13 +4,10 @@ use mathlib.Core.List.{List}
 use Prim.Native.Nat.{ℕ}
 use lib.ListN.{length}
 use borrow.Author.Rules.{rules}
-use Rattle.runs.proofs.Walking.{words_fit}
-use Rattle.agreement.proofs.Agreeing.{agree_shaped}
 use Rattle.cutting.proofs.Halves.{cut_there, whole_fits, whole_there, room_there, agreed_shaped, number_fits, gone_fits, kept_some, left_some, front_fits, second_number_fits, begun_within, run_end_lem, first_end, moved_shaped, second_used, second_words, has_run, first_used, first_words, first_record, second_record, both}
 use Rattle.cutting.proofs.splitting.halve.Goals as goal
 
 -- a table that was lent twice is as long as it came
-
 lent_twice : (one two three : List ℕ) → length three ≡ length two → length two ≡ length one → length three ≡ length one
 lent_twice one two three e f = e ∙ f
 

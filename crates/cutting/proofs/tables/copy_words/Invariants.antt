@@ -1,10 +1,8 @@
 -- `tables::copy_words` meets its contract. The words before i are copied, the others stand as they came.
 use Prim.Native.Nat.{◌-◌, ◌≤◌}
-use mathlib.Core.Path.{◌≡◌, refl}
+use mathlib.Core.Path.{◌≡◌}
 use mathlib.Core.List.{◌++◌}
 use lib.ListN.{length, take, drop}
-use borrow.Author.Rules.{rules}
-use Rattle.cutting.proofs.Copying.{word_copied, words_copied}
 use Rattle.cutting.proofs.tables.copy_words.Given as goal
 
 abbrev pub invariant-loop-i : goal.invariant-loop-i
