@@ -9,7 +9,6 @@ use mir.Syntax.{w64}
 use mir.Val.{Fits}
 use Rattle.units.specs.declared.Grains.{Grains}
 use Rattle.units.specs.declared.Millis.{Millis}
-use Rattle.units.specs.declared.WideMillis.{WideMillis}
 use Rattle.units.specs.Limits.{largest_tick, largest_millis, largest_timescale}
 use Rattle.units.specs.Product.{Product}
 use Rattle.window.specs.declared.Head.{Head}

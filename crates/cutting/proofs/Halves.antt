@@ -3,7 +3,7 @@ use mathlib.Core.Path.{◌≡◌, refl, sym, ap, ap₂, subst, ◌∙◌}
 use mathlib.Core.Bool.{true}
 use mathlib.Core.List.{List, [], ◌∷◌, ◌++◌}
 use Prim.Native.Nat.{ℕ, zero, suc, ◌+◌, ◌-◌, ◌*◌, ◌^◌, ◌≤◌, ◌<◌}
-use native.Mathlib.Nat.{mul-le-mul_left, mul-zero, le_of_lt, not-suc-le-zero}
+use native.Mathlib.Nat.{mul-zero, le_of_lt, not-suc-le-zero}
 use native.Mathlib.Omega.{arith}
 use lib.ListN.{length, get_or, take, drop, length-drop, take-append-drop}
 use lib.Seq.{length-take-le}
@@ -19,7 +19,7 @@ use Rattle.runs.specs.Words.{run_at, runs_of, run_end, repeated, references_of, 
 use Rattle.runs.specs.Encoding.{runs_for, table_of, canonical}
 use Rattle.runs.specs.Shape.{shaped}
 use Rattle.runs.specs.Ends.{last_end}
-use Rattle.runs.proofs.Opening.{runs_length, references_in, repeated_length}
+use Rattle.runs.proofs.Opening.{runs_length}
 use Rattle.runs.proofs.Encoded.{shaped_drop}
 use Rattle.runs.proofs.Ends.{passed_most}
 use Rattle.runs.proofs.EndToStart.{end_append, join_back, kept_join, repeated_end, references_append, references_of_run}
@@ -27,14 +27,14 @@ use Rattle.runs.proofs.Tables.{runs_shaped_lem, table_shaped, table_runs, table_
 use Rattle.runs.proofs.Walking.{opened, leading, place_there}
 use Rattle.runs.proofs.Dropping.{cut_left}
 use Rattle.agreement.specs.declared.Record.{Record}
-use Rattle.agreement.specs.Agreement.{kept, agrees}
+use Rattle.agreement.specs.Agreement.{kept}
 use Rattle.agreement.proofs.Agreeing.{Agreeing, agreeing}
 use Rattle.keeping.specs.declared.Outcome.TheVariants.{Accepted}
 use Rattle.keeping.proofs.Kept.{last_drop}
 use Rattle.cutting.specs.declared.Halved.{Halved}
 use Rattle.cutting.specs.declared.places.Place.{Place}
 use Rattle.cutting.specs.Halves.{numbered_from, keeping_just}
-use Rattle.cutting.specs.Steps.{begun_before, Through, CutPlace, Has, upto, up_front, gone_by, Halving}
+use Rattle.cutting.specs.Steps.{Through, Has, upto, up_front, gone_by, Halving}
 use Rattle.cutting.proofs.Placing.{begun_most, cut_drop}
 use Rattle.cutting.proofs.Truncating.{upto_parts, first_few}
 

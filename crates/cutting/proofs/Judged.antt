@@ -3,29 +3,26 @@ use mathlib.Core.Path.{◌≡◌, refl, sym, ap, ap₂, subst, ◌∙◌}
 use mathlib.Core.Bool.{Bool, true, false, cond, not, ◌&&◌, and-false}
 use mathlib.Core.List.{List, [], ◌∷◌}
 use Prim.Native.Nat.{ℕ, ◌+◌, ◌-◌, ◌*◌, ◌/◌, ◌≤◌, ◌<◌}
-use native.Mathlib.Nat.{le_refl, le_trans, le_antisymm}
+use native.Mathlib.Nat.{le_trans}
 use native.Mathlib.Omega.{arith}
 use borrow.Author.Tests.{ne_eqb, le-leb, lt-leb}
-use lib.Dec.{eqb, leb}
-use lib.ListN.{length, get_or, take, drop, length-drop, drop_of_length-le, take-append-drop}
+use lib.Dec.{leb}
+use lib.ListN.{length, get_or, take, drop, drop_of_length-le, take-append-drop}
 use lib.Seq.{length-take-le, take_all}
 use mir.Syntax.{w64}
 use mir.Val.{Fits}
 use Rattle.units.specs.Limits.{largest_millis}
-use Rattle.units.proofs.Guards.{told, refused, allowed}
 use Rattle.window.specs.declared.Head.{Head}
 use Rattle.window.specs.declared.Reference.{Reference}
 use Rattle.window.specs.Limits.{Held}
 use Rattle.window.specs.Window.{passed}
 use Rattle.window.specs.References.{EndToStart}
 use Rattle.runs.specs.declared.Run.{Run}
-use Rattle.runs.specs.Words.{run_at, runs_of, references_of, kept_in, capacity}
-use Rattle.runs.specs.Encoding.{encode, runs_for, table_of}
-use Rattle.runs.specs.Ends.{last_end}
+use Rattle.runs.specs.Words.{run_at, runs_of, references_of, capacity}
+use Rattle.runs.specs.Encoding.{encode, runs_for, table_of, canonical}
 use Rattle.runs.specs.Steps.{passed_upto}
 use Rattle.runs.proofs.Opening.{runs_length}
 use Rattle.runs.proofs.Encoded.{runs_prefix}
-use Rattle.runs.proofs.Ends.{passed_most}
 use Rattle.runs.proofs.EndToStart.{kept_join, kept_within}
 use Rattle.runs.proofs.Tables.{used_fits, runs_for_kept}
 use Rattle.runs.proofs.Dropping.{less_made, first_within, dropped_used}
@@ -36,11 +33,13 @@ use Rattle.agreement.specs.Agreement.{kept, agrees}
 use Rattle.agreement.proofs.Agreeing.{Agreeing, agreeing, agree_head}
 use Rattle.keeping.specs.declared.Outcome.{Outcome}
 use Rattle.keeping.specs.declared.Outcome.TheVariants.{Accepted, Refused}
+use Rattle.keeping.specs.Keeping.{words_keeping}
+use Rattle.keeping.proofs.Outcomes.{words_accepted}
 use Rattle.timeline.specs.Opening.{zero_record}
 use Rattle.cutting.specs.declared.Halved.{Halved}
 use Rattle.cutting.specs.declared.places.Place.{Place}
-use Rattle.cutting.specs.Halves.{ticks_in, first_head, second_head, first_number, keeping_just, first_of, second_of, first_half, second_half}
-use Rattle.cutting.specs.Splitting.{cut_inside, cut_on_tick, keeps_some, has_room, halves_outcome, split_outcome, split_by}
+use Rattle.cutting.specs.Halves.{ticks_in, first_head, second_head, keeping_just, first_of, second_of, first_half, second_half}
+use Rattle.cutting.specs.Splitting.{cut_inside, cut_on_tick, keeps_some, has_room, halves_outcome, split_outcome, split_by, first_by, second_by}
 use Rattle.cutting.specs.Steps.{Cuttable, begun_before, CutPlace, up_front, gone_by, Halving}
 use Rattle.cutting.proofs.Cuts.{cut_small}
 use Rattle.cutting.proofs.Placing.{begun_most, cut_drop}
@@ -57,6 +56,37 @@ module _ (o : Outcome) (rec : Record) (ws : List ℕ) (p : ℕ) where
   pub answer_split : o ≡ Accepted → (r : Halved) → r ≡ record { outcome = Accepted; first = first_half rec ws p; second = second_half rec ws p } → r ≡ split_by o rec ws p
   unfolding split_by
   answer_split e r f = f ∙ sym (ap (λ x. split_by x rec ws p) e)
+
+-- ---- 2, 22 and 23, by the tests in their order
+
+module _ (rec : Record) (ws : List ℕ) (p : ℕ) (other : List ℕ) where
+  abbrev judged_by : Bool → Bool → Bool → Outcome
+  judged_by a c d = cond a (cond c (cond d (halves_outcome rec ws p other) (Refused CutOffTick)) (Refused CutOutside)) (Refused Disagreement)
+
+  by_judging : (a c d : Bool) → agrees rec ws ≡ a → cut_inside rec.head p ≡ c → cut_on_tick rec.head p ≡ d → split_outcome rec ws p other ≡ judged_by a c d
+  unfolding split_outcome
+  by_judging a c d e f g = ap₂ (λ x y. judged_by x y (cut_on_tick rec.head p)) e f ∙ ap (judged_by a c) g
+
+  pub disagrees : agrees rec ws ≡ false → split_outcome rec ws p other ≡ Refused Disagreement
+  disagrees e = by_judging false (cut_inside rec.head p) (cut_on_tick rec.head p) e refl refl
+
+  module _ (a : agrees rec ws ≡ true) where
+    pub cut_outside : cut_inside rec.head p ≡ false → split_outcome rec ws p other ≡ Refused CutOutside
+    cut_outside f = by_judging true false (cut_on_tick rec.head p) a f refl
+
+    module _ (c : cut_inside rec.head p ≡ true) where
+      pub cut_off_tick : cut_on_tick rec.head p ≡ false → split_outcome rec ws p other ≡ Refused CutOffTick
+      cut_off_tick g = by_judging true true false a c g
+
+      pub cut_asked : Held rec.head × (p ≤ largest_millis)
+      cut_asked = (agree_head rec ws a, cut_small rec.head p c)
+
+      module _ (d : cut_on_tick rec.head p ≡ true) where
+        pub cuttable : Cuttable rec.head p
+        cuttable = record { held = agree_head rec ws a; inside = c; whole = d }
+
+        pub judged : split_outcome rec ws p other ≡ halves_outcome rec ws p other
+        judged = by_judging true true true a c d
 
 -- ---- 24 and 9, by what the halves keep
 
@@ -120,6 +150,9 @@ module _ (rec : Record) (ws : List ℕ) (p : ℕ) (a : agrees rec ws ≡ true) (
 
   second_list : second_of rec ws p ≡ drop (passed_upto K rs) rs
   second_list = second_is rec.head p cut rec.clock.0 (get_or ws 0 0) rs joined facts.coming facts.begun
+
+  pub spent_asks : (first : Head) → first ≡ first_head rec.head p → Held first × (rec.clock.0 ≤ largest_millis)
+  spent_asks first g = (subst Held (sym g) (first_held rec.head p cut), facts.held.clock)
 
   -- a front part of what is kept takes no more runs than the table has
   pub front_room : (n : ℕ) → runs_for (take n rs) ≤ capacity ws
@@ -210,3 +243,41 @@ module _ (rec : Record) (ws : List ℕ) (p : ℕ) (a : agrees rec ws ≡ true) (
         splits =
             has_room_lem rec ws p other (take (up_front x) rs) (drop (gone_by x) rs) first_cut second_cut first_some second_some (front_room (up_front x))
             (omega (arith, second_runs))
+
+        -- ---- what it leaves
+
+        first_made : keeping_just rec first (rec.head.first.0 + rec.dropped) (take (up_front x) rs) ≡ first_half rec ws p
+        first_made =
+            ap₂ (λ h ys. keeping_just rec h (rec.head.first.0 + rec.dropped) ys) g (sym first_cut) ∙
+            ap (λ (n : ℕ). keeping_just rec (first_head rec.head p) n (first_of rec ws p))
+            (sym
+            (first_numbered rec.head p cut rec.clock.0 (get_or ws 0 0) rs joined facts.coming rec.next.0 coming (rec.head.first.0 + rec.dropped)
+            (omega (arith, front_is))))
+
+        second_made : keeping_just rec second (rec.head.first.0 + rec.dropped + gone_by x) (drop (gone_by x) rs) ≡ second_half rec ws p
+        second_made =
+            ap₂ (λ h ys. keeping_just rec h (rec.head.first.0 + rec.dropped + gone_by x) ys) s (sym second_cut) ∙
+            ap (λ (n : ℕ). keeping_just rec (second_head rec.head p) n (second_of rec ws p))
+            (ap (λ (n : ℕ). rec.head.first.0 + rec.dropped + n) gone_is ∙
+            sym
+            (second_numbered rec.head p cut rec.clock.0 (get_or ws 0 0) rs joined facts.coming facts.begun (rec.head.first.0 + rec.dropped)))
+
+        pub halves_made : (r : Halved) →
+            r ≡ record {
+              outcome = Accepted;
+              first = keeping_just rec first (rec.head.first.0 + rec.dropped) (take (up_front x) rs);
+              second = keeping_just rec second (rec.head.first.0 + rec.dropped + gone_by x) (drop (gone_by x) rs);
+            } →
+            r ≡ split_by (halves_outcome rec ws p other) rec ws p
+        halves_made r f =
+            answer_split (halves_outcome rec ws p other) rec ws p splits r
+            (f ∙ ap₂ (λ (y z : Record). record { outcome = Accepted; first = y; second = z }) first_made second_made)
+
+        pub first_left : (vs : List ℕ) → vs ≡ canonical (length ws) (take (up_front x) rs) → vs ≡ first_by (halves_outcome rec ws p other) rec ws p
+        first_left vs f =
+            words_accepted (halves_outcome rec ws p other) (words_keeping ws (first_of rec ws p)) ws splits vs (f ∙ ap (canonical (length ws)) (sym first_cut))
+
+        pub second_left : (vs : List ℕ) → vs ≡ canonical (length other) (drop (gone_by x) rs) → vs ≡ second_by (halves_outcome rec ws p other) rec ws p other
+        second_left vs f =
+            words_accepted (halves_outcome rec ws p other) (words_keeping other (second_of rec ws p)) other splits vs
+            (f ∙ ap (canonical (length other)) (sym second_cut))

@@ -6,7 +6,7 @@ use mathlib.Core.List.{List, [], ◌∷◌, ◌++◌}
 use Prim.Native.Nat.{ℕ, zero, suc, ◌+◌, ◌-◌, ◌*◌, ◌≤◌, ◌<◌}
 use native.Mathlib.Nat.{not-suc-le-zero, mul-le-mul_left, mul-zero, add-zero, le_of_lt, le_refl}
 use native.Mathlib.Omega.{arith}
-use borrow.Author.Tests.{leb-true, leb-false, ltb-true, ltb-false, lt-ltb, le-ltb}
+use borrow.Author.Tests.{leb-true, leb-false, lt-ltb, le-ltb}
 use lib.Dec.{leb, ltb}
 use lib.ListN.{length, take, drop}
 use mir.Syntax.{w64}
@@ -16,7 +16,7 @@ use Rattle.units.specs.Limits.{largest_tick}
 use Rattle.units.proofs.Choice.{through}
 use Rattle.window.specs.declared.Reference.{Reference}
 use Rattle.window.specs.Window.{end_of}
-use Rattle.window.specs.References.{EndToStart, Each}
+use Rattle.window.specs.References.{EndToStart}
 use Rattle.runs.specs.declared.Run.{Run}
 use Rattle.runs.specs.Words.{run_at, runs_of, run_end, repeated, references_of, kept_in}
 use Rattle.runs.specs.Shape.{shaped}
