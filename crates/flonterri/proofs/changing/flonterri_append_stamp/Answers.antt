@@ -15,7 +15,9 @@ pub returns-then-wrong-ne0 : goal.returns-then-wrong-ne0
 unfolding appends_stamp
 returns-then-wrong-ne0 c =
     let a = c.args in
-    record { value = (leaves_nothing a.«record».now a.table.now a.out.now 1 _ c.wrong_length-wrong.ensures _ _ _ _ c.if-wrong-ne0.true).0; record_after = (leaves_nothing a.«record».now a.table.now a.out.now 1 _ c.wrong_length-wrong.ensures _ _ _ _ c.if-wrong-ne0.true).1.0; table_after = (leaves_nothing a.«record».now a.table.now a.out.now 1 _ c.wrong_length-wrong.ensures _ _ _ _ c.if-wrong-ne0.true).1.1.0; out_after = (leaves_nothing a.«record».now a.table.now a.out.now 1 _ c.wrong_length-wrong.ensures _ _ _ _ c.if-wrong-ne0.true).1.1.1 }
+    let law = leaves_nothing a.«record».now a.table.now a.out.now 1 _ c.wrong_length-wrong.ensures in
+    let k = c.if-wrong-ne0.true in
+    record { value = (law _ _ _ _ k).0; record_after = (law _ _ _ _ k).1.0; table_after = (law _ _ _ _ k).1.1.0; out_after = (law _ _ _ _ k).1.1.1 }
 
 pub record_of-rec-requires : goal.record_of-rec-requires
 record_of-rec-requires c = search (rules, first_right)

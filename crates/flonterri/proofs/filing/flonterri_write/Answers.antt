@@ -12,7 +12,9 @@ pub returns-then-wrong-ne0 : goal.returns-then-wrong-ne0
 unfolding writes
 returns-then-wrong-ne0 c =
     let a = c.args in
-    record { value = (writes_nothing a.«record».now a.bytes.now a.out.now _ c.wrong_length-wrong.ensures _ _ c.if-wrong-ne0.true).0; bytes_after = (writes_nothing a.«record».now a.bytes.now a.out.now _ c.wrong_length-wrong.ensures _ _ c.if-wrong-ne0.true).1.0; out_after = (writes_nothing a.«record».now a.bytes.now a.out.now _ c.wrong_length-wrong.ensures _ _ c.if-wrong-ne0.true).1.1 }
+    let law = writes_nothing a.«record».now a.bytes.now a.out.now _ c.wrong_length-wrong.ensures in
+    let k = c.if-wrong-ne0.true in
+    record { value = (law _ _ k).0; bytes_after = (law _ _ k).1.0; out_after = (law _ _ k).1.1 }
 
 pub record_of-requires : goal.record_of-requires
 record_of-requires c = search (rules, first_right)
@@ -26,5 +28,9 @@ returns c =
     let a = c.args in
     let bytes = a.bytes.now in
     let ts = a.table.now in
-    let k = writes_by_lem a.«record».now bytes a.out.now _ c.wrong_length-wrong.ensures (λ rec. write_answer rec ts (length bytes)) (λ rec. output_by (write_answer rec ts (length bytes)) (file_for rec ts) bytes) c.if-wrong-ne0.false _ c.record_of.ensures _ _ c.write-answer.ensures.value c.write-answer.ensures.out_after _ _ c.tell_written.ensures.value c.tell_written.ensures.out_after in
+    let k =
+    writes_by_lem a.«record».now bytes a.out.now _ c.wrong_length-wrong.ensures (λ rec. write_answer rec ts (length bytes))
+    (λ rec. output_by (write_answer rec ts (length bytes)) (file_for rec ts) bytes) c.if-wrong-ne0.false _ c.record_of.ensures _ _
+    c.write-answer.ensures.value c.write-answer.ensures.out_after _ _ c.tell_written.ensures.value c.tell_written.ensures.out_after
+    in
     record { value = k.0; bytes_after = k.1.0; out_after = k.1.1 }

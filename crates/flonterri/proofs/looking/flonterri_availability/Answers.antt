@@ -10,7 +10,10 @@ use Rattle.flonterri.proofs.looking.flonterri_availability.Goals as goal
 pub returns-then-wrong-ne0 : goal.returns-then-wrong-ne0
 unfolding tells_availability
 returns-then-wrong-ne0 c =
-    record { value = (tells_nothing c.args.«record».now 3 c.args.out.now _ c.wrong_length-wrong.ensures availability_tells _ c.if-wrong-ne0.true).0; out_after = (tells_nothing c.args.«record».now 3 c.args.out.now _ c.wrong_length-wrong.ensures availability_tells _ c.if-wrong-ne0.true).1 }
+    let a = c.args in
+    let law = tells_nothing a.«record».now 3 a.out.now _ c.wrong_length-wrong.ensures availability_tells in
+    let k = c.if-wrong-ne0.true in
+    record { value = (law _ k).0; out_after = (law _ k).1 }
 
 pub record_of-requires : goal.record_of-requires
 record_of-requires c = search (rules, first_right)
@@ -22,5 +25,9 @@ pub returns : goal.returns
 unfolding tells_availability availability_tells
 returns c =
     let a = c.args in
-    let k = tells_by a.«record».now 3 a.out.now _ c.wrong_length-wrong.ensures availability_tells (λ rec. availability_in rec a.table.now (record { 0 = a.number })) c.if-wrong-ne0.false _ c.record_of.ensures _ c.availability-availability.ensures _ _ c.tell_availability.ensures.value c.tell_availability.ensures.out_after in
+    let k =
+    tells_by a.«record».now 3 a.out.now _ c.wrong_length-wrong.ensures availability_tells
+    (λ rec. availability_in rec a.table.now (record { 0 = a.number })) c.if-wrong-ne0.false _ c.record_of.ensures _
+    c.availability-availability.ensures _ _ c.tell_availability.ensures.value c.tell_availability.ensures.out_after
+    in
     record { value = k.0; out_after = k.1 }

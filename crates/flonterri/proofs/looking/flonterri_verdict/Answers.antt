@@ -10,7 +10,10 @@ use Rattle.flonterri.proofs.looking.flonterri_verdict.Goals as goal
 pub returns-then-wrong-ne0 : goal.returns-then-wrong-ne0
 unfolding tells_verdict
 returns-then-wrong-ne0 c =
-    record { value = (tells_nothing c.args.«record».now 5 c.args.out.now _ c.wrong_length-wrong.ensures verdict_tells _ c.if-wrong-ne0.true).0; out_after = (tells_nothing c.args.«record».now 5 c.args.out.now _ c.wrong_length-wrong.ensures verdict_tells _ c.if-wrong-ne0.true).1 }
+    let a = c.args in
+    let law = tells_nothing a.«record».now 5 a.out.now _ c.wrong_length-wrong.ensures verdict_tells in
+    let k = c.if-wrong-ne0.true in
+    record { value = (law _ k).0; out_after = (law _ k).1 }
 
 pub record_of-requires : goal.record_of-requires
 record_of-requires c = search (rules, first_right)
@@ -22,5 +25,9 @@ pub returns : goal.returns
 unfolding tells_verdict verdict_tells
 returns c =
     let a = c.args in
-    let k = tells_by a.«record».now 5 a.out.now _ c.wrong_length-wrong.ensures verdict_tells (λ rec. verdict_at rec a.table.now (record { 0 = a.clock })) c.if-wrong-ne0.false _ c.record_of.ensures _ c.verdict-verdict.ensures _ _ c.tell_verdict.ensures.value c.tell_verdict.ensures.out_after in
+    let k =
+    tells_by a.«record».now 5 a.out.now _ c.wrong_length-wrong.ensures verdict_tells
+    (λ rec. verdict_at rec a.table.now (record { 0 = a.clock })) c.if-wrong-ne0.false _ c.record_of.ensures _ c.verdict-verdict.ensures _ _
+    c.tell_verdict.ensures.value c.tell_verdict.ensures.out_after
+    in
     record { value = k.0; out_after = k.1 }
