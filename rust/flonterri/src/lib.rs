@@ -47,7 +47,7 @@
 //! or that [`Timeline::of_words`] has tested. Words that may be anything are for the calls of
 //! [`words`].
 //!
-//! The archive is `libflonterri.a`, for x86-64; `rt staticlib flonterri` writes it. Set
+//! The archive is `libflonterri.a`, for x86-64; README.md says how it is built. Set
 //! `FLONTERRI_LIB_DIR` where it does not lie in `target/staticlib` of the repository. A relative
 //! folder is looked for from the folder in which cargo is called.
 
