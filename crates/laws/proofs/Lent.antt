@@ -40,11 +40,15 @@ left_is s c o left l i = record { rec = l.rec i; words = l.words i }
 ends : (s : State) (cs : List Call) (os : List Outcome) (left : State) → LentCalls s cs os left → left ≡ after_calls s cs
 unfolding after_calls
 ends s [] [] left none = refl
+ends s [] (o ∷ os) left ls = elim ls [ ]
+ends s (c ∷ cs) [] left ls = elim ls [ ]
 ends s (c ∷ cs) (o ∷ os) left (more {between = between} l ls) = ends between cs os left ls ∙ ap (λ (x : State). after_calls x cs) (left_is s c o between l)
 
 answers : (s : State) (cs : List Call) (os : List Outcome) (left : State) → LentCalls s cs os left → os ≡ outcomes_of s cs
 unfolding outcomes_of
 answers s [] [] left none = refl
+answers s [] (o ∷ os) left ls = elim ls [ ]
+answers s (c ∷ cs) [] left ls = elim ls [ ]
 answers s (c ∷ cs) (o ∷ os) left (more {between = between} l ls) =
     ap₂ ◌∷◌ l.outcome (answers between cs os left ls ∙ ap (λ (x : State). outcomes_of x cs) (left_is s c o between l))
 

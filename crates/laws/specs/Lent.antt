@@ -27,7 +27,7 @@ use Rattle.keeping.specs.declared.Outcome.TheVariants.{Accepted, Refused}
 use Rattle.keeping.specs.Keeping.{outcome_number}
 use Rattle.timeline.specs.Opening.{open_outcome}
 use Rattle.held.specs.Following.{followed, followed_table}
-use Rattle.lent.proofs as lent
+use Rattle.lent.specs.contracts as lent
 use Rattle.laws.specs.Calls.{Call, by_tick, by_stamp, trim_at, pair_at, Plain, State, opening, after, after_calls, outcome_of, all_accepted, accepted_appends, greatest}
 use Rattle.laws.specs.History.{Holds, Mixings, kept_by}
 use Rattle.laws.specs.Refusals.{lowest, append_tick_rows, append_stamp_rows, trim_rows, pair_rows}
@@ -43,7 +43,7 @@ pub record Lent (s : State) (c : Call) (o : Outcome) (left : State) : Type 0 whe
 
 -- The check makes of each contract what its `requires` asks and what its `ensures` says, as claims of its logic, over any model of it. The
 -- functions of `lent` take a record and a table that are lent, and then what the call by value takes.
-module _ {M : Type 1} {𝓤 : Ura M} (𝓛 : Logic 𝓤) (mem : Memory → SProp 𝓤) (run : Routine → Fun 𝓤) (κs : Lfts 2) (rec : Bor Record) (table : Bor (List ℕ)) where
+module _ {M : Type 1} {𝓤 : Ura M} (𝓛 : Logic 𝓤) (mem : Memory → SProp 𝓤) (run : Routine → Fun 𝓤) (κs : Lfts 2) (rec : MutBor Record) (table : MutBor (List ℕ)) where
   abbrev pub came : State
   came = record { rec = rec.now; words = table.now }
 
@@ -55,7 +55,7 @@ module _ {M : Type 1} {𝓤 : Ura M} (𝓛 : Logic 𝓤) (mem : Memory → SProp
     pub append_trim : (x : Stamp) (d n : ℕ) (c : WideMillis) → (lent.append_trim.clauses 𝓛 mem run κs (rec, (table, (x, (d, (n, (c, tt))))))).requires tt ≡ emp 𝓤
 
   -- it says of its answer, and of the record and the table when it ends, what `Lent` does
-  module _ (o : Outcome) (rec' : Bor Record) (table' : Bor (List ℕ)) where
+  module _ (o : Outcome) (rec' : MutBor Record) (table' : MutBor (List ℕ)) where
     abbrev pub says : Call → SProp 𝓤
     says c = sep 𝓤 (fact 𝓤 (o ≡ outcome_of came c)) (sep 𝓤 (fact 𝓤 (rec'.now ≡ (after came c).rec)) (fact 𝓤 (table'.now ≡ (after came c).words)))
 

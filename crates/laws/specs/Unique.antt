@@ -3,7 +3,7 @@
 -- what its `requires` asks of the arguments, and `f.Reads.Learnt` what its `ensures` says of the arguments, the result, and the
 -- parameters when the call ends. Paper: What a statement must leave no room for.
 use Rattle.std.specs.Prelude.{◌≡◌}
-use Rattle.std.specs.Borrow.{Bor}
+use Rattle.std.specs.Borrow.{Bor, MutBor}
 use Rattle.units.proofs as units
 use Rattle.window.proofs as window
 use Rattle.hexdigits.proofs as hex
@@ -28,55 +28,55 @@ use Rattle.flonterri.proofs as c
 -- that the call leaves in those that are lent to it to change; `_` are the others.
 
 -- table, words or out; ..
-abbrev pub first : {A R : Type 0} → Bor A × R → A
+abbrev pub first : {A R : Type 0} → MutBor A × R → A
 first = λ (words, _). (words).now
 
 -- record, reader, desk or bytes; table, ..
-abbrev pub table : {P A R : Type 0} → P × (Bor A × R) → A
+abbrev pub table : {P A R : Type 0} → P × (MutBor A × R) → A
 table = λ (_, (table, _)). table.now
 
 -- head fields, first tick, table
-abbrev pub opened : {P Q A R : Type 0} → P × (Q × (Bor A × R)) → A
+abbrev pub opened : {P Q A R : Type 0} → P × (Q × (MutBor A × R)) → A
 opened = λ (_, (_, (table, _))). table.now
 
 -- desk or bytes, table, out
-abbrev pub table_and_out : {P A B R : Type 0} → P × (Bor A × (Bor B × R)) → A × B
+abbrev pub table_and_out : {P A B R : Type 0} → P × (MutBor A × (MutBor B × R)) → A × B
 table_and_out = λ (_, (table, (out, _))). (table.now, out.now)
 
 -- record, table, out
-abbrev pub out : {P Q A R : Type 0} → P × (Q × (Bor A × R)) → A
+abbrev pub out : {P Q A R : Type 0} → P × (Q × (MutBor A × R)) → A
 out = λ (_, (_, (out, _))). out.now
 
 -- record, table, what is asked, out
-abbrev pub out_after_one : {P Q S A R : Type 0} → P × (Q × (S × (Bor A × R))) → A
+abbrev pub out_after_one : {P Q S A R : Type 0} → P × (Q × (S × (MutBor A × R))) → A
 out_after_one = λ (_, (_, (_, (out, _)))). out.now
 
 -- record, table, the two ticks of a span or a number and a clock, out
-abbrev pub out_after_two : {P Q S T A R : Type 0} → P × (Q × (S × (T × (Bor A × R)))) → A
+abbrev pub out_after_two : {P Q S T A R : Type 0} → P × (Q × (S × (T × (MutBor A × R)))) → A
 out_after_two = λ (_, (_, (_, (_, (out, _))))). out.now
 
 -- C: record, table, ..
-abbrev pub record_and_table : {A B R : Type 0} → Bor A × (Bor B × R) → A × B
+abbrev pub record_and_table : {A B R : Type 0} → MutBor A × (MutBor B × R) → A × B
 record_and_table = λ (rec, (table, _)). (rec.now, table.now)
 
 -- words of a record, out, ..
-abbrev pub record_and_out : {A B R : Type 0} → Bor A × (Bor B × R) → A × B
+abbrev pub record_and_out : {A B R : Type 0} → MutBor A × (MutBor B × R) → A × B
 record_and_out = λ (rec, (out, _)). (rec.now, out.now)
 
 -- C: record, table, start, duration, count, out
-abbrev pub appended : {A B P Q S C R : Type 0} → Bor A × (Bor B × (P × (Q × (S × (Bor C × R))))) → A × B × C
+abbrev pub appended : {A B P Q S C R : Type 0} → MutBor A × (MutBor B × (P × (Q × (S × (MutBor C × R))))) → A × B × C
 appended = λ (rec, (table, (_, (_, (_, (out, _)))))). (rec.now, table.now, out.now)
 
 -- C: record, table, start, duration, count, clock, out
-abbrev pub paired : {A B P Q S T C R : Type 0} → Bor A × (Bor B × (P × (Q × (S × (T × (Bor C × R)))))) → A × B × C
+abbrev pub paired : {A B P Q S T C R : Type 0} → MutBor A × (MutBor B × (P × (Q × (S × (T × (MutBor C × R)))))) → A × B × C
 paired = λ (rec, (table, (_, (_, (_, (_, (out, _))))))). (rec.now, table.now, out.now)
 
 -- C: bytes, record, table, out
-abbrev pub record_table_out : {P A B C R : Type 0} → P × (Bor A × (Bor B × (Bor C × R))) → A × B × C
+abbrev pub record_table_out : {P A B C R : Type 0} → P × (MutBor A × (MutBor B × (MutBor C × R))) → A × B × C
 record_table_out = λ (_, (rec, (table, (out, _)))). (rec.now, table.now, out.now)
 
 -- C: record, table, bytes, out
-abbrev pub bytes_and_out : {P Q A B R : Type 0} → P × (Q × (Bor A × (Bor B × R))) → A × B
+abbrev pub bytes_and_out : {P Q A B R : Type 0} → P × (Q × (MutBor A × (MutBor B × R))) → A × B
 bytes_and_out = λ (_, (_, (bytes, (out, _)))). (bytes.now, out.now)
 
 -- ---- what is said of a function
