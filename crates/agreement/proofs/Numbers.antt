@@ -31,6 +31,3 @@ refusal_some why = eqb-false (refusal_number why) 0 (go why)
     go refusal.BadOrder = refl
     go refusal.NoEndToReach = refl
     go refusal.EndUnknown = refl
-    go refusal.CutOutside = refl
-    go refusal.CutOffTick = refl
-    go refusal.EmptyHalf = refl

@@ -1,7 +1,7 @@
--- The paper's number of each refusal, and the distance that a gap and an overlap have. Paper: Refusal numbers; document 02, W-204 (22 to 24).
+-- The paper's number of each refusal, and the distance that a gap and an overlap have. Paper: Refusal numbers.
 use Rattle.std.specs.Prelude.{ℕ}
 use Rattle.agreement.specs.declared.refusal.Refusal.{Refusal}
-use Rattle.agreement.specs.declared.refusal.Refusal.TheVariants.{OverLimit, Disagreement, NothingGiven, Gap, Overlap, TickLimit, CountLimit, PastEnd, NoRunLeft, ClockLimit, EarlierClock, NothingKept, NotKept, EmptySpan, ShortOutput, BadLine, BadOrder, NoEndToReach, EndUnknown, CutOutside, CutOffTick, EmptyHalf}
+use Rattle.agreement.specs.declared.refusal.Refusal.TheVariants.{OverLimit, Disagreement, NothingGiven, Gap, Overlap, TickLimit, CountLimit, PastEnd, NoRunLeft, ClockLimit, EarlierClock, NothingKept, NotKept, EmptySpan, ShortOutput, BadLine, BadOrder, NoEndToReach, EndUnknown}
 
 abbrev pub refusal_number : Refusal → ℕ
 -- a head field, the first tick or the offset over its limit, or timescale 0
@@ -42,12 +42,6 @@ refusal_number BadOrder = 17
 refusal_number NoEndToReach = 18
 -- whole-period verdict, end unknown
 refusal_number EndUnknown = 19
--- a cut at 0 or not below a known duration, or the start that it moves over its limit
-refusal_number CutOutside = 22
--- a cut at no whole number of ticks, or the offset that it moves over its limit
-refusal_number CutOffTick = 23
--- a half of a cut that keeps nothing
-refusal_number EmptyHalf = 24
 
 -- how far the start of a refused append lies from the next tick; of every other refusal 0, which no gap and no overlap has
 abbrev pub refusal_distance : Refusal → ℕ
@@ -70,6 +64,3 @@ refusal_distance BadLine = 0
 refusal_distance BadOrder = 0
 refusal_distance NoEndToReach = 0
 refusal_distance EndUnknown = 0
-refusal_distance CutOutside = 0
-refusal_distance CutOffTick = 0
-refusal_distance EmptyHalf = 0

@@ -26,9 +26,6 @@ pub enum Refusal {
     BadOrder,
     NoEndToReach,
     EndUnknown,
-    CutOutside,
-    CutOffTick,
-    EmptyHalf,
 }
 
 impl Refusal {
@@ -55,9 +52,6 @@ impl Refusal {
             Refusal::BadOrder => 17,
             Refusal::NoEndToReach => 18,
             Refusal::EndUnknown => 19,
-            Refusal::CutOutside => 22,
-            Refusal::CutOffTick => 23,
-            Refusal::EmptyHalf => 24,
         }
     }
     // How far the start of a refused append lies from the next tick, 0 where that is not why.

@@ -3,7 +3,6 @@ pub mod ByHand
 pub mod Calling
 pub mod Leaving
 pub mod Histories
-pub mod Afresh
 pub mod Pairs
 pub mod Lent
 pub mod Listed

@@ -19,4 +19,3 @@ pub mod Update
 pub mod OldAnswers
 pub mod Stamps
 pub mod Coverage
-pub mod Afresh
