@@ -1,11 +1,12 @@
-// The program's reads and its one write. No contract can say which bytes a read brings or a write takes.
+// The program's reads and its one write. No contract can say which bytes the system brings or takes.
 // Stated is what lies between, for any reader: the loop ends and leaves desk and table where some pieces of
 // input bring them, and the line that is made then is the answer to all the bytes of those pieces; where the
-// loop stopped because the answer is settled, to those bytes with any more behind them. `run` hands that line
-// to the write, unless a read failed, tells what failed on standard error and ends with it.
-ghost use Rattle.std.specs.Prelude.{IfOk, OnErr};
+// loop stopped because the answer is settled, to those bytes with any more behind them. Of a reader whose bytes
+// are known, as one over memory, the line is the answer to them. `run` hands the line to the write, unless a
+// read failed, tells what failed on standard error and ends with it.
+ghost use Rattle.std.specs.Prelude.{IfOk, IfSome, OnErr};
 ghost use Rattle.std.specs.Io.{ReadsAtMost};
-ghost use Rattle.report.specs.Running.{Reads, Left, Tells, Answered};
+ghost use Rattle.report.specs.Running.{Reads, ReadsKnown, Left, Tells, Answered, AnswersKnown};
 
 use crate::{Desk, Fed, Made, Stopped, feeding, replying};
 use std::fs::File;
@@ -55,6 +56,7 @@ impl<'a, R: Input + Files> Read for StandardInput<'a, R> {
 // turns that are used up, which are counted as above.
 fn feed_all<R: Read>(input: &mut R, table: &mut [u64]) -> io::Result<Fed>
     ensures fed { IfOk result (λ fed. Reads table.old fed table.new) }
+    ensures known { IfOk result (λ fed. IfSome (R.remaining input.old) (λ known. ReadsKnown known table.old fed table.new)) }
     ensures failed { OnErr result (Left table.old table.new) }
 {
     let mut buffer = [0u8; 65536];
@@ -90,7 +92,8 @@ fn tell(desk: Desk, table: &mut [u64], out: &mut [u8; 93]) -> usize
 
 // Reads an input until its answer is certain, and makes the line.
 fn answer_input<R: Read>(input: &mut R, out: &mut [u8; 93]) -> io::Result<Made>
-    ensures { IfOk result (λ made. Answered made.stopped out.new made.count) }
+    ensures answered { IfOk result (λ made. Answered made.stopped out.new made.count) }
+    ensures known { IfOk result (λ made. IfSome (R.remaining input.old) (λ known. AnswersKnown known made.stopped out.new made.count)) }
 {
     let mut table = [0u64; 3072];
     let fed = feed_all(input, &mut table)?;
