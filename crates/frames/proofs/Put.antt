@@ -1,7 +1,7 @@
 -- A line put into an output: the fields of a frame, its kind in front, make its line. And a head's by whether it has its update period.
 use mathlib.Core.Path.{◌≡◌, sym, ap, subst, subst⁻¹, ◌∙◌}
 use mathlib.Core.List.{List, [], ◌∷◌, ◌++◌, append_assoc}
-use Prim.Native.Nat.{ℕ, ◌+◌, ◌<◌}
+use Prim.Native.Nat.{ℕ, ◌<◌}
 use lib.ListN.{drop}
 use Rattle.frames.specs.Fields.{field_digits}
 use Rattle.frames.specs.Frames.{line_widths, line_length, ended_length, head_kind, update_values, update_in, fields_in, kind_of, values_of, line_of, ended_line, Written}

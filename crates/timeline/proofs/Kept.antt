@@ -25,7 +25,7 @@ use Rattle.runs.proofs.Tables.{canonical_is, runs_for_kept, used_fits}
 use Rattle.runs.proofs.EndToStart.{kept_join, kept_within}
 use Rattle.agreement.specs.declared.Record.{Record}
 use Rattle.agreement.specs.Agreement.{kept, every, counts_held, record_held, agrees}
-use Rattle.agreement.proofs.Judging.{coming, record_held_lem}
+use Rattle.agreement.proofs.Judging.{record_held_lem}
 use Rattle.agreement.proofs.Agreeing.{Agreeing, agreeing}
 use Rattle.agreement.specs.declared.refusal.Refusal.TheVariants as refusal
 use Rattle.agreement.specs.declared.refusal.Refusal.TheVariants.{OverLimit}

@@ -11,7 +11,6 @@ use Rattle.units.specs.Limits.{largest_tick, largest_span, tick_of}
 use Rattle.units.specs.Standing.{tick_standing}
 use Rattle.units.specs.declared.standing.Standing.TheVariants.{Joins}
 use Rattle.window.specs.declared.Head.{Head}
-use Rattle.window.specs.Limits.{fields_of}
 use Rattle.runs.specs.declared.Run.{Run}
 use Rattle.runs.specs.Words.{words_of, references_of}
 use Rattle.runs.specs.Shape.{runs_shaped}
@@ -29,7 +28,7 @@ use Rattle.timeline.specs.Appending.{append_outcome}
 use Rattle.timeline.proofs.Kept.{open_agrees, accepted_keeps}
 use Rattle.frames.specs.Fields.{all_ones}
 use Rattle.frames.specs.declared.Frame.{Frame}
-use Rattle.frames.specs.declared.Frame.TheVariants.{Head as HeadFrame, End}
+use Rattle.frames.specs.declared.Frame.TheVariants.{End}
 use Rattle.frames.specs.declared.SFields.{SFields}
 use Rattle.frames.specs.Language.{AllFit}
 use Rattle.frames.specs.Frames.{line_of, ended_line}

@@ -8,7 +8,6 @@ use native.Mathlib.Omega.{arith}
 use borrow.Author.Tests.{not-true}
 use lib.ListN.{length, length-append}
 use Rattle.window.specs.declared.Head.{Head}
-use Rattle.window.specs.Limits.{fields_of}
 use Rattle.window.specs.declared.Reference.{Reference}
 use Rattle.window.specs.Place.{place, moment, period_end, before_end}
 use Rattle.window.specs.Window.{low_edge, end_of, passed}
@@ -29,7 +28,7 @@ use Rattle.keeping.specs.declared.Outcome.TheVariants as outcome
 use Rattle.keeping.specs.Keeping.{words_keeping, words_by}
 use Rattle.frames.specs.Fields.{all_ones}
 use Rattle.frames.specs.declared.Frame.{Frame}
-use Rattle.frames.specs.declared.Frame.TheVariants.{Head as HeadFrame, End}
+use Rattle.frames.specs.declared.Frame.TheVariants.{End}
 use Rattle.frames.specs.Language.{AllFit}
 use Rattle.frames.specs.Frames.{Fits}
 use Rattle.file.specs.declared.Stage.TheVariants.{Ended}

@@ -1,17 +1,10 @@
 -- `number` meets its contract. The loop's invariant: what is read so far, moved left by the digits to come, and what those
 -- mean make the whole number; and it has at most `i` digits, so that it fits. The measure is what is left of the length.
-use mathlib.Core.Path.{◌≡◌, sym, ◌∙◌, ap}
+use mathlib.Core.Path.{◌≡◌}
 use mathlib.Core.List.{List}
-use Prim.Native.Nat.{ℕ, suc, ◌+◌, ◌-◌, ◌*◌, ◌^◌, ◌≤◌, ◌<◌}
-use native.Mathlib.Nat.{lt_of_lt_of_le, pow-suc, pow-succ', pow-le-pow_right, add-mul, mul_assoc, add_assoc, mul-one, zero-mul, zero-add, add-zero}
-use native.Mathlib.Numerals.{add-one}
-use native.Mathlib.Omega.{arith}
-use borrow.Author.Rules.{rules}
-use lib.Arith.{digits_lt}
-use lib.ListN.{length, get_or, drop, drop_of_length-le}
-use lib.Seq.{drop-cons}
-use Rattle.hexdigits.specs.Digits.{value_of, number_of}
-use Rattle.hexdigits.proofs.Single.{value_below}
+use Prim.Native.Nat.{ℕ, ◌+◌, ◌-◌, ◌*◌, ◌^◌, ◌≤◌, ◌<◌}
+use lib.ListN.{length, drop}
+use Rattle.hexdigits.specs.Digits.{number_of}
 use Rattle.hexdigits.proofs.number.Given as goal
 
 pub record Read (s : List ℕ) (n i : ℕ) : Type 0 where

@@ -1,14 +1,10 @@
 -- `write_digits` meets its contract. The loop's invariant: the digits of what is left of the number, before those written,
 -- are the digits of the number. The measure is how many places are left.
-use mathlib.Core.Path.{◌≡◌, refl, sym, ◌∙◌, ap, ap₂}
-use mathlib.Core.List.{List, [], ◌∷◌, ◌++◌, append-nil}
-use Prim.Native.Nat.{ℕ, suc, ◌+◌, ◌-◌, ◌/◌, ◌%◌, ◌≤◌, ◌<◌}
-use native.Mathlib.Omega.{arith}
-use borrow.Author.Rules.{rules}
-use lib.ListN.{length, drop, set, length-set}
-use lib.Seq.{append_snoc, drop-cons, drop-length, drop-set-lt, get_or-set_same, lt-length-set}
-use Rattle.hexdigits.specs.Digits.{digit_of, digits_of}
-use Rattle.hexdigits.proofs.Widths.{digits_last}
+use mathlib.Core.Path.{◌≡◌}
+use mathlib.Core.List.{List, ◌++◌}
+use Prim.Native.Nat.{ℕ, ◌-◌, ◌≤◌}
+use lib.ListN.{length, drop}
+use Rattle.hexdigits.specs.Digits.{digits_of}
 use Rattle.hexdigits.proofs.write_digits.Given as goal
 
 pub record Written (s₀ : List ℕ) (x : ℕ) (s : List ℕ) (rest done : ℕ) : Type 0 where

@@ -1,5 +1,4 @@
 -- `s_frame` meets its contract, for the first run and for the others.
-use borrow.Author.Rules.{rules}
 use Rattle.writing.proofs.Output.{s_counts, s_first, s_later}
 use Rattle.writing.proofs.s_frame.Goals as goal
 

@@ -1,5 +1,4 @@
 -- `write` meets its contract, test by test.
-use borrow.Author.Rules.{rules}
 use Rattle.writing.proofs.Whole.{write_disagrees, write_nothing, write_product, write_total, write_short, write_asks, write_whole}
 use mathlib.Core.Bool.{not}
 use mathlib.Core.Path.{ap}

@@ -1,6 +1,5 @@
-use Prim.Native.Nat.{◌-◌}
 use borrow.Author.Rules.{rules}
-use Rattle.writing.proofs.Output.{Lined, lined_none, lined_there, lined_run, lined_asks, lined_fits, lined_more, lined_length, lined_all}
+use Rattle.writing.proofs.Output.{lined_none, lined_there, lined_run, lined_asks, lined_fits, lined_more, lined_length, lined_all}
 use Rattle.writing.proofs.write_runs.Goals as goal
 
 pub loop-i-init : goal.loop-i-init

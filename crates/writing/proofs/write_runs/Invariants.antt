@@ -1,7 +1,6 @@
 -- `write_runs` meets its contract. The loop's invariant: the S lines of the runs before i stand in front. The measure is the runs left.
 use Prim.Native.Nat.{◌-◌}
-use borrow.Author.Rules.{rules}
-use Rattle.writing.proofs.Output.{Lined, lined_none, lined_there, lined_run, lined_asks, lined_fits, lined_more, lined_length, lined_all}
+use Rattle.writing.proofs.Output.{Lined}
 use Rattle.writing.proofs.write_runs.Given as goal
 
 abbrev pub invariant-loop-i : goal.invariant-loop-i

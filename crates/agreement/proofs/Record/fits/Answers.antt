@@ -1,6 +1,6 @@
 -- `fits` meets its contract, case by case.
 use borrow.Author.Rules.{rules}
-use Rattle.agreement.proofs.Judging.{drops, fits_nothing, asks_keeps, fits_kept}
+use Rattle.agreement.proofs.Judging.{drops, fits_nothing, fits_kept}
 use Rattle.agreement.proofs.Record.fits.Goals as goal
 
 pub overflow_sub-result : goal.overflow_sub-result

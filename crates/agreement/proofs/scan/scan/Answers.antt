@@ -1,5 +1,5 @@
 use borrow.Author.Rules.{rules}
-use Rattle.agreement.proofs.Scanning.{Passing, scan_none, scan_unheld, scan_holds, scan_room, scan_apart, scan_broken, scan_fits, scan_again, scan_ends}
+use Rattle.agreement.proofs.Scanning.{scan_none, scan_unheld, scan_holds, scan_room, scan_apart, scan_broken, scan_fits, scan_again, scan_ends}
 use Rattle.agreement.proofs.scan.scan.Goals as goal
 
 pub returns-then-used-eq0 : goal.returns-then-used-eq0

@@ -1,10 +1,8 @@
 -- `zeros_from` meets its contract. The loop's invariant: what is left to look at decides.
-use borrow.Author.Rules.{rules}
 use mathlib.Core.Path.{◌≡◌}
 use Prim.Native.Nat.{◌≤◌, ◌-◌}
 use lib.ListN.{length, drop}
 use Rattle.runs.specs.Shape.{zeros}
-use Rattle.agreement.proofs.Zeros.{zero_here, not_zero, no_more}
 use Rattle.agreement.proofs.scan.zeros_from.Given as goal
 
 abbrev pub invariant-loop-i : goal.invariant-loop-i

@@ -1,7 +1,5 @@
-use Prim.Native.Nat.{◌-◌}
-use lib.ListN.{length}
 use borrow.Author.Rules.{rules}
-use Rattle.file.proofs.Turning.{unfed_reader, unfed_table, Turned, turn_none, end_within, end_fits, turn_ended, turn_unended, ended_less, unended_less, turned_reader, turned_table}
+use Rattle.file.proofs.Turning.{unfed_reader, unfed_table, turn_none, end_within, end_fits, turn_ended, turn_unended, ended_less, unended_less, turned_reader, turned_table}
 use mathlib.Core.Bool.{not}
 use mathlib.Core.Path.{ap}
 use Rattle.file.proofs.feeding.feed.Goals as goal

@@ -2,7 +2,6 @@
 use mathlib.Core.Path.{ap}
 use Rattle.agreement.specs.declared.Record.{Record}
 use Rattle.keeping.specs.declared.Outcome.TheVariants.{Refused}
-use borrow.Author.Rules.{rules}
 use Rattle.file.proofs.feeding.refused_at.Goals as goal
 
 pub returns : goal.returns

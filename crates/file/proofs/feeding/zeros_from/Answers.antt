@@ -1,8 +1,4 @@
-use mathlib.Core.Path.{◌≡◌}
-use Prim.Native.Nat.{◌-◌}
-use lib.ListN.{length, drop}
 use borrow.Author.Rules.{rules}
-use Rattle.runs.specs.Shape.{zeros}
 use Rattle.agreement.proofs.Zeros.{zero_here, not_zero, no_more}
 use Rattle.file.proofs.feeding.zeros_from.Goals as goal
 

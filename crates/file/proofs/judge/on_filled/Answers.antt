@@ -1,5 +1,4 @@
 -- `on_filled` meets its contract, either way.
-use borrow.Author.Rules.{rules}
 use Rattle.file.proofs.Places.{filled_misplaced, filled_end}
 use Rattle.file.proofs.judge.on_filled.Goals as goal
 

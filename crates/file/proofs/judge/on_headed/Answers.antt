@@ -1,5 +1,4 @@
 -- `on_headed` meets its contract, by the frame and by what opening answers.
-use borrow.Author.Rules.{rules}
 use Rattle.file.proofs.SLines.{first_refused, first_asks, first_taken}
 use Rattle.file.proofs.Places.{headed_misplaced, headed_asks, headed_s}
 use Rattle.file.proofs.judge.on_headed.Goals as goal

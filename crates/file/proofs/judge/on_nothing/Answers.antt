@@ -1,6 +1,5 @@
 -- `on_nothing` meets its contract, case by case.
 use mathlib.Core.Path.{ap, ◌∙◌}
-use borrow.Author.Rules.{rules}
 use Rattle.window.specs.Limits.{head_made}
 use Rattle.file.proofs.Steps.{head_over, head_taken}
 use Rattle.file.proofs.Places.{nothing_misplaced, nothing_head}

@@ -1,5 +1,4 @@
 -- `on_open` meets its contract, case by case.
-use borrow.Author.Rules.{rules}
 use Rattle.file.proofs.Places.{open_misplaced, open_asks, open_s, open_end, running_lines}
 use Rattle.file.proofs.judge.on_open.Goals as goal
 

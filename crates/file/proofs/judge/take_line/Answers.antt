@@ -1,5 +1,4 @@
 -- `take_line` meets its contract, stage by stage.
-use borrow.Author.Rules.{rules}
 use Rattle.file.proofs.Places.{at_nothing, at_headed, at_open, at_filled, line_nothing, line_headed, line_open, line_filled, line_ended, line_refused}
 use Rattle.file.proofs.judge.take_line.Goals as goal
 

@@ -1,5 +1,4 @@
 -- `take_s` meets its contract, case by case.
-use borrow.Author.Rules.{rules}
 use Rattle.file.proofs.SLines.{s_nothing, s_gap, s_overlap, s_held, s_reaches, s_asks, s_lines_lem, s_appended}
 use Rattle.file.proofs.judge.take_s.Goals as goal
 

@@ -1,6 +1,5 @@
-use Prim.Native.Nat.{◌-◌}
 use borrow.Author.Rules.{rules}
-use Rattle.file.proofs.SoFar.{Added, room_left, added_none, added_place, added_part, added_more, added_all}
+use Rattle.file.proofs.SoFar.{room_left, added_none, added_place, added_part, added_more, added_all}
 use Rattle.file.proofs.lines.add.Goals as goal
 
 pub overflow_sub-count : goal.overflow_sub-count

@@ -1,7 +1,6 @@
 -- `add` meets its contract. The loop's invariant: so much of the part is added. The measure is what is left to add.
 use Prim.Native.Nat.{◌-◌}
-use borrow.Author.Rules.{rules}
-use Rattle.file.proofs.SoFar.{Added, room_left, added_none, added_place, added_part, added_more, added_all}
+use Rattle.file.proofs.SoFar.{Added}
 use Rattle.file.proofs.lines.add.Given as goal
 
 abbrev pub invariant-loop-i : goal.invariant-loop-i

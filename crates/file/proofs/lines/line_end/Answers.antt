@@ -1,7 +1,5 @@
-use Prim.Native.Nat.{◌-◌}
-use lib.ListN.{length}
 use borrow.Author.Rules.{rules}
-use Rattle.file.proofs.Cuts.{Sought, sought_none, sought_found, sought_more, sought_all}
+use Rattle.file.proofs.Cuts.{sought_none, sought_found, sought_more, sought_all}
 use Rattle.file.proofs.lines.line_end.Goals as goal
 
 pub loop-i-init : goal.loop-i-init

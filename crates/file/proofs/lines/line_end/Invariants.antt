@@ -1,8 +1,7 @@
 -- `line_end` meets its contract. The loop's invariant: no feed stands before i. The measure is what is left.
 use Prim.Native.Nat.{◌-◌}
 use lib.ListN.{length}
-use borrow.Author.Rules.{rules}
-use Rattle.file.proofs.Cuts.{Sought, sought_none, sought_found, sought_more, sought_all}
+use Rattle.file.proofs.Cuts.{Sought}
 use Rattle.file.proofs.lines.line_end.Given as goal
 
 abbrev pub invariant-loop-i : goal.invariant-loop-i

@@ -9,7 +9,7 @@ use lib.ListN.{length, get_or, take, drop, set, length-set, drop_of_length-le, l
 use lib.Seq.{append_snoc, drop-drop, take-suc-set, take_all}
 use Rattle.hexdigits.specs.Digits.{number_of}
 use Rattle.frames.specs.Fields.{field_values, Narrow}
-use Rattle.frames.proofs.Places.{Place, place_begun, place_turn, double_fits, end_fits, end_within, from_here}
+use Rattle.frames.proofs.Places.{place_begun, place_turn, double_fits, end_fits, end_within, from_here}
 use Rattle.frames.proofs.fields.read_fields.Invariants.{Read}
 use Rattle.frames.proofs.fields.read_fields.Goals as goal
 

@@ -1,17 +1,11 @@
 -- `fields::read_fields` meets its contract. The loop's invariant: the values read, before those that the rest of the row
 -- reads from the rest of the line, are those of the whole line. The measure is what is left of the row.
-use mathlib.Core.Path.{◌≡◌, refl, sym, ◌∙◌, ap, ap₂}
-use mathlib.Core.List.{List, ◌∷◌, ◌++◌, append-nil}
-use Prim.Native.Nat.{ℕ, ◌+◌, ◌-◌, ◌*◌, ◌≤◌, ◌<◌}
-use native.Mathlib.Nat.{add-sub_cancel_left}
-use native.Mathlib.Numerals.{add-one}
-use native.Mathlib.Omega.{arith}
-use borrow.Author.Rules.{rules}
-use lib.ListN.{length, get_or, take, drop, set, length-set, drop_of_length-le, length-take}
-use lib.Seq.{append_snoc, drop-drop, take-suc-set, take_all}
-use Rattle.hexdigits.specs.Digits.{number_of}
+use mathlib.Core.Path.{◌≡◌}
+use mathlib.Core.List.{List, ◌++◌}
+use Prim.Native.Nat.{ℕ, ◌-◌}
+use lib.ListN.{length, take, drop}
 use Rattle.frames.specs.Fields.{field_values, Narrow}
-use Rattle.frames.proofs.Places.{Place, place_begun, place_turn, double_fits, end_fits, end_within, from_here}
+use Rattle.frames.proofs.Places.{Place}
 use Rattle.frames.proofs.fields.read_fields.Given as goal
 
 pub record Read (line ws vs : List ℕ) (at i : ℕ) : Type 0 where

@@ -11,7 +11,7 @@ use borrow.Rule.Slice.PartMut.{put_mid, same_len_mid, mid_len, drop_put}
 use Rattle.hexdigits.specs.Digits.{digits_of}
 use Rattle.hexdigits.proofs.Widths.{length_digits}
 use Rattle.frames.specs.Fields.{digit_count, field_digits}
-use Rattle.frames.proofs.Places.{Place, place_begun, place_turn, place_done, double_fits, end_fits, field_within, from_here}
+use Rattle.frames.proofs.Places.{place_begun, place_turn, place_done, double_fits, end_fits, field_within, from_here}
 use Rattle.frames.proofs.fields.write_fields.Invariants.{Written}
 use Rattle.frames.proofs.fields.write_fields.Goals as goal
 

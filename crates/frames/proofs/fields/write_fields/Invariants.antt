@@ -1,19 +1,11 @@
 -- `fields::write_fields` meets its contract. The loop's invariant: what is written, before the digits of the fields to come,
 -- is the line, and what lies behind is as it came. The measure is what is left of the row.
-use mathlib.Core.Path.{◌≡◌, refl, sym, ◌∙◌, ap, ap₂}
-use mathlib.Core.List.{List, ◌∷◌, ◌++◌, append-nil, append_assoc}
-use Prim.Native.Nat.{ℕ, ◌+◌, ◌-◌, ◌*◌, ◌≤◌, ◌<◌}
-use native.Mathlib.Nat.{le_trans, add-sub_cancel_left}
-use native.Mathlib.Numerals.{add-one}
-use native.Mathlib.Omega.{arith}
-use borrow.Author.Rules.{rules}
-use lib.ListN.{length, get_or, take, drop, set, length-append, drop_of_length-le}
-use lib.Seq.{drop-drop, take_at, set_split, length-take-le}
-use borrow.Rule.Slice.PartMut.{put_mid, same_len_mid, mid_len, drop_put}
-use Rattle.hexdigits.specs.Digits.{digits_of}
-use Rattle.hexdigits.proofs.Widths.{length_digits}
+use mathlib.Core.Path.{◌≡◌}
+use mathlib.Core.List.{List, ◌++◌}
+use Prim.Native.Nat.{ℕ, ◌-◌, ◌≤◌}
+use lib.ListN.{length, take, drop}
 use Rattle.frames.specs.Fields.{digit_count, field_digits}
-use Rattle.frames.proofs.Places.{Place, place_begun, place_turn, place_done, double_fits, end_fits, field_within, from_here}
+use Rattle.frames.proofs.Places.{Place}
 use Rattle.frames.proofs.fields.write_fields.Given as goal
 
 pub record Written (out₀ ws vs out : List ℕ) (at i : ℕ) : Type 0 where

@@ -1,5 +1,4 @@
 -- `digit::digit_of` meets its contract: below ten a decimal digit, else a letter.
-use borrow.Author.Rules.{rules}
 use borrow.Author.Tests.{lt-ltb, le-ltb}
 use native.Mathlib.Omega.{arith}
 use Rattle.hexdigits.specs.Digits.{digit_of}

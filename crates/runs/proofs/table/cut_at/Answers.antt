@@ -1,8 +1,4 @@
-use Prim.Native.Nat.{◌+◌, ◌-◌, ◌≤◌}
-use mathlib.Core.Path.{◌≡◌}
-use lib.ListN.{length, take}
 use borrow.Author.Rules.{rules}
-use Rattle.runs.specs.Words.{runs_of, references_of}
 use Rattle.runs.proofs.Walking.{words_fit, place_there, cut_none, cut_more, cut_here, cut_all}
 use Rattle.runs.proofs.table.cut_at.Goals as goal
 

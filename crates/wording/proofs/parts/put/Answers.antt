@@ -1,7 +1,5 @@
-use Prim.Native.Nat.{◌-◌}
-use lib.ListN.{length}
 use borrow.Author.Rules.{rules}
-use Rattle.wording.proofs.Placed.{Copied, copied_none, copied_there, copied_more, copied_all}
+use Rattle.wording.proofs.Placed.{copied_none, copied_there, copied_more, copied_all}
 use Rattle.wording.proofs.parts.put.Goals as goal
 
 pub loop-i-init : goal.loop-i-init

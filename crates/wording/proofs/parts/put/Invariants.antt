@@ -1,8 +1,7 @@
 -- `put` meets its contract. The loop's invariant: the first i bytes of the text are put. The measure is what is left of it.
 use Prim.Native.Nat.{◌-◌}
 use lib.ListN.{length}
-use borrow.Author.Rules.{rules}
-use Rattle.wording.proofs.Placed.{Copied, copied_none, copied_there, copied_more, copied_all}
+use Rattle.wording.proofs.Placed.{Copied}
 use Rattle.wording.proofs.parts.put.Given as goal
 
 abbrev pub invariant-loop-i : goal.invariant-loop-i
