@@ -33,7 +33,7 @@ use Rattle.timeline.specs.Appending.{unjoined◌else◌, append_outcome, append_
 use Rattle.timeline.specs.Trimming.{trim_outcome, trim_answer}
 use Rattle.timeline.specs.Pair.{pair_outcome, pair_answer}
 use Rattle.timeline.proofs.Kept.{or_none}
-use Rattle.laws.specs.Refusals.{lowest, some, over_limit, no_run_left, stamp_after, stamp_before, given_rows, append_rows, open_rows, trim_rows, pair_rows, append_tick_rows, append_stamp_rows}
+use Rattle.laws.specs.Refusals.{lowest, over_limit, no_run_left, stamp_after, stamp_before, given_rows, append_rows, open_rows, trim_rows, pair_rows, append_tick_rows, append_stamp_rows}
 use Rattle.laws.proofs.Rows.{Fails, over, none, either, not_every}
 
 -- ---- opening and trimming

@@ -25,7 +25,6 @@ use Rattle.agreement.specs.declared.refusal.Refusal.TheVariants as refusal
 use Rattle.agreement.specs.Agreement.{kept, agrees}
 use Rattle.agreement.proofs.Agreeing.{agreeing}
 use Rattle.keeping.specs.declared.Outcome.{Outcome}
-use Rattle.keeping.specs.declared.Outcome.TheVariants.{Refused}
 use Rattle.keeping.specs.Keeping.{outcome_number, outcome_distance, changed_by}
 use Rattle.keeping.proofs.Outcomes.{outcome_beside as told}
 use Rattle.answers.specs.declared.Verdict.{Verdict}

@@ -17,7 +17,7 @@ use Rattle.units.specs.Limits.{largest_millis, largest_span}
 use Rattle.window.specs.declared.Head.{Head}
 use Rattle.window.specs.declared.Reference.{Reference}
 use Rattle.window.specs.Place.{end_known, before_end}
-use Rattle.window.specs.Window.{end_of, needed, Spent, passed}
+use Rattle.window.specs.Window.{end_of, Spent, passed}
 use Rattle.window.specs.References.{EndToStart, Each, Sound}
 use Rattle.window.proofs.Spending.{passed_spent, yet_needed, spent_is}
 use Rattle.window.proofs.Unsigned.{end_at, place_n, low_n, cut_n, high_n, needed_is, before_is}
