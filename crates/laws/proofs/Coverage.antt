@@ -1,7 +1,7 @@
 -- Trimming never costs coverage: by what a trim keeps (`OnlySpent`) and what a list of calls keeps (demand 3), and by one law of the window, that a
 -- reference in which a needed tick lies is needed itself. And the cases by hand.
-use mathlib.Core.Path.{◌≡◌, refl, sym, ap, ap₂, fun_ext, subst, subst⁻¹, ◌∙◌}
-use mathlib.Core.Bool.{Bool, true, false, cond, ◌&&◌, ◌||◌, not}
+use mathlib.Core.Path.{◌≡◌, refl, sym, ap, ap₂, subst⁻¹, ◌∙◌}
+use mathlib.Core.Bool.{Bool, true, false, cond}
 use mathlib.Core.List.{List, [], ◌∷◌}
 use Prim.Native.Nat.{ℕ, ◌+◌, ◌*◌, ◌≤◌, ◌<◌, max}
 use native.Mathlib.Nat.{add-mul, mul-le-mul_right, le_trans, le_refl, le_of_lt, lt_of_lt_of_le, max-le, le-max_left, le-max_right}
@@ -19,11 +19,9 @@ use Rattle.window.specs.declared.Head.{Head}
 use Rattle.window.specs.declared.Reference.{Reference}
 use Rattle.window.specs.declared.Needed.TheVariants as needed
 use Rattle.window.specs.Place.{place, moment, end_known, period_end, later}
-use Rattle.window.specs.Window.{window_at, whole_period, low_edge, high_edge, end_of, tick_needed}
+use Rattle.window.specs.Window.{window_at, whole_period, low_edge, high_edge, tick_needed}
 use Rattle.window.specs.References.{EndToStart, Each, Sound}
-use Rattle.window.proofs.Ranges.{range_first, range_last}
 use Rattle.window.proofs.Unsigned.{end_at}
-use Rattle.window.proofs.Spending.{tick_needs}
 use Rattle.window.proofs.Division.{window_ticks, period_ticks}
 use Rattle.runs.specs.Words.{runs_of, words_of, repeated, references_of}
 use Rattle.runs.specs.Shape.{runs_shaped, zeros}
@@ -45,12 +43,10 @@ use Rattle.timeline.proofs.Kept.{trim_passed}
 use Rattle.answers.specs.declared.Verdict.{Verdict}
 use Rattle.answers.specs.declared.Verdict.TheVariants.{Complete, Lacking, Refused}
 use Rattle.answers.specs.declared.CoveredEdge.TheVariants as edge
-use Rattle.answers.specs.Cover.{covers, covered_by}
-use Rattle.answers.specs.Counts.{count_below, least_below, beyond, needed_count}
-use Rattle.answers.specs.Judgement.{judged, verdict_of, verdict_at, verdict_whole}
+use Rattle.answers.specs.Cover.{covered_by}
+use Rattle.answers.specs.Judgement.{verdict_of, verdict_at, verdict_whole}
 use Rattle.answers.specs.Shares.{verdict_percent}
 use Rattle.answers.specs.Edge.{edge_of, covered_edge}
-use Rattle.answers.proofs.Counting.{refuted}
 use Rattle.answers.proofs.Cases.{asked_at}
 use Rattle.answers.proofs.Edging.{end_clock}
 use Rattle.answers.proofs.Judging.{all_covered, first_lacking, end_lacking}
@@ -65,8 +61,7 @@ use Rattle.words.specs.Tells.{verdict_tells}
 use Rattle.words.proofs.Words.{record_words_lem}
 use Rattle.flonterri.specs.Face.{guarded, Changes, changes, trims, tells, tells_verdict}
 use Rattle.laws.specs.Calls.{Call, trim_at, Plain, State, opening, after, after_calls, outcome_of, all_accepted, greatest}
-use Rattle.laws.specs.History.{StillNeeded, Picked, end, kept_one, left_out, kept_by}
-use Rattle.laws.specs.Spent.{Keeps}
+use Rattle.laws.specs.History.{kept_by}
 use Rattle.laws.specs.Demand2.{early, first_kept, at_clock}
 use Rattle.laws.specs.ByHand.{wide, millis, number, trimming, trim_of, state_of, head_b, five_b}
 use Rattle.laws.specs.Update.{five_u}
@@ -74,34 +69,10 @@ use Rattle.laws.specs.Coverage.{trimmed_at_each, NoneAfter, verdict_in, SameVerd
 use Rattle.laws.proofs.Calling.{trim_leaves, trim_done, trim_refused, answered}
 use Rattle.laws.proofs.Leaving.{left_suffix, left_kept}
 use Rattle.laws.proofs.Histories.{accepted_sound, demand_3}
-use Rattle.laws.proofs.Spent.{only_spent}
+use Rattle.laws.proofs.Stays.{picked_verdict, Accepts, accepts, still_covered, still_judged}
 use Rattle.laws.proofs.Verdicts.{refused_at_lem}
 use Rattle.laws.proofs.Update.{update_right}
 use Rattle.laws.proofs.ByHand.{state_b, state_b2, agreed, by_hand, by_clock, by_period, one_run}
-
--- ---- references that stay cover what is needed
-
-module _ (h : Head) (c d : ℕ) (l : c ≤ d) where
-  -- THE LAW: of references, those that are still needed at clock c cover each tick that is needed at clock d
-  picked_cover : (k : ℕ) → tick_needed h (window_at h d) k ≡ true → {all stay : List Reference} → Picked (StillNeeded h c) all stay → covered_by stay k ≡ covered_by all k
-  unfolding covered_by
-  picked_cover k t end = refl
-  picked_cover k t (kept_one {r = r} p ps) = ap (λ b. covers r k || b) (picked_cover k t ps)
-  picked_cover k t (left_out {r = r} {xs = rs} n ps) =
-      picked_cover k t ps ∙
-      ap (λ b. b || covered_by rs k)
-      (sym (refuted (covers r k) (λ q. n (d, l, tick_needs h r k d (range_first r.start.0 (end_of r) k q) (range_last r.start.0 (end_of r) k q) t))))
-
-  -- so the counts are the same, and the lowest tick
-  picked_verdict : {all stay : List Reference} → Picked (StillNeeded h c) all stay → verdict_of h (window_at h d) stay ≡ verdict_of h (window_at h d) all
-  picked_verdict {all} {stay} p =
-      ap₂ (λ (q r : ℕ → Bool). judged (needed_count h (window_at h d)) (count_below q (beyond h (window_at h d))) (least_below r (beyond h (window_at h d))))
-      (fun_ext (λ k. by_need k (tick_needed h (window_at h d) k) refl (λ b. b)))
-      (fun_ext (λ k. by_need k (tick_needed h (window_at h d) k) refl not))
-    where
-      by_need : (k : ℕ) (t : Bool) → tick_needed h (window_at h d) k ≡ t → (f : Bool → Bool) → (t && f (covered_by stay k)) ≡ (t && f (covered_by all k))
-      by_need k true e f = ap f (picked_cover k e p)
-      by_need k false e f = refl
 
 -- ---- the whole period
 
@@ -124,29 +95,19 @@ module _ (h : Head) (c : ℕ) (none : h.depth.0 ≡ 0) (known : end_known h ≡ 
 -- ---- a trim that is accepted
 
 module _ (s : State) (c : WideMillis) where
-  record Accepts : Type 0 where
-    agreed : agrees s.rec s.words ≡ true
-    leaves : agrees (trim_leaves s c).rec (trim_leaves s c).words ≡ true
-    stays : Picked (StillNeeded s.rec.head (max s.rec.clock.0 c.0)) (kept_by s) (kept_by (trim_leaves s c))
-
-  accepts : trim_outcome s.rec s.words c ≡ outcome.Accepted → Accepts
-  accepts o =
-      let k = subst (λ x. Keeps s x (max s.rec.clock.0 c.0) (kept_by s)) (trim_done s c o) (only_spent.trim s c o) in
-      record { agreed = (trim_passed s.rec s.words c o).0; leaves = k.settled.agreed; stays = k.exactly }
-
   -- what holds of a state, and of what an accepted trim leaves of it, holds of what any trim leaves
-  by_trim : (A : State → Type 0) → A s → (Accepts → A (trim_leaves s c)) → A (after s (trim_at c))
+  by_trim : (A : State → Type 0) → A s → (Accepts s c → A (trim_leaves s c)) → A (after s (trim_at c))
   by_trim A same less = go (trim_outcome s.rec s.words c) refl
     where
       go : (o : Outcome) → trim_outcome s.rec s.words c ≡ o → A (after s (trim_at c))
-      go outcome.Accepted e = subst⁻¹ A (trim_done s c e) (less (accepts e))
+      go outcome.Accepted e = subst⁻¹ A (trim_done s c e) (less (accepts s c e))
       go (outcome.Refused why) e = subst⁻¹ A (trim_refused s c why e) same
 
   module _ (d : WideMillis) (l : c.0 ≤ d.0) where
     covered : s.rec.clock.0 ≤ d.0 → (k : ℕ) → tick_needed s.rec.head (at_clock s.rec d) k ≡ true → covered_by (kept_by (after s (trim_at c))) k ≡ covered_by (kept_by s) k
     covered m k t =
         by_trim (λ x. covered_by (kept_by x) k ≡ covered_by (kept_by s) k) refl
-        (λ a. picked_cover s.rec.head (max s.rec.clock.0 c.0) d.0 (max-le m l) k t a.stays)
+        (λ a. still_covered s c a d.0 (max-le m l) k t)
 
     same_verdict : verdict_in (after s (trim_at c)) d ≡ verdict_in s d
     same_verdict = by_trim (λ x. verdict_in x d ≡ verdict_in s d) refl (λ a. ap₂ answer (a.leaves ∙ sym a.agreed) (by_clock a (leb s.rec.clock.0 d.0) refl))
@@ -158,12 +119,12 @@ module _ (s : State) (c : WideMillis) where
         answer agreed v = cond agreed (cond (clock_held d) v (Refused ClockLimit)) (Refused Disagreement)
 
         -- a clock that is before the greatest one is so with the trim too, and one that is not before it is not before the trim's either
-        by_clock : Accepts → (b : Bool) → leb s.rec.clock.0 d.0 ≡ b →
+        by_clock : Accepts s c → (b : Bool) → leb s.rec.clock.0 d.0 ≡ b →
             cond (leb (max s.rec.clock.0 c.0) d.0) (judge (kept_by (trim_leaves s c))) (Refused EarlierClock) ≡ cond (leb s.rec.clock.0 d.0) (judge (kept_by s)) (Refused EarlierClock)
         by_clock a true e =
             let m : max s.rec.clock.0 c.0 ≤ d.0 = max-le (leb-true s.rec.clock.0 d.0 e) l in
             ap₂ (λ b v. cond b v (Refused EarlierClock)) (le-leb (max s.rec.clock.0 c.0) d.0 m ∙ sym e)
-            (picked_verdict s.rec.head (max s.rec.clock.0 c.0) d.0 m a.stays)
+            (still_judged s c a d.0 m)
         by_clock a false e =
             let m : d.0 < max s.rec.clock.0 c.0 = lt_of_lt_of_le (leb-false s.rec.clock.0 d.0 e) (le-max_left s.rec.clock.0 c.0) in
             ap (λ b. cond b (judge (kept_by (trim_leaves s c))) (Refused EarlierClock)) (lt-leb (max s.rec.clock.0 c.0) d.0 m) ∙
@@ -175,7 +136,7 @@ module _ (s : State) (c : WideMillis) where
       let o : trim_outcome s.rec s.words c ≡ outcome.Accepted = answered s (trim_at c) ∙ e in
       subst⁻¹ (λ x. verdict_in x d ≡ Refused EarlierClock) (trim_done s c o)
       ((refused_at_lem (trim_leaves s c).rec (trim_leaves s c).words d EarlierClock).if
-      (early (accepts o).leaves (le_trans (le_of_lt l) (trim_passed s.rec s.words c o).1) (lt_of_lt_of_le l (le-max_right s.rec.clock.0 c.0))))
+      (early (accepts s c o).leaves (le_trans (le_of_lt l) (trim_passed s.rec s.words c o).1) (lt_of_lt_of_le l (le-max_right s.rec.clock.0 c.0))))
 
   -- ---- the whole period, where no depth is given
 
@@ -187,13 +148,13 @@ module _ (s : State) (c : WideMillis) where
       judge : List Reference → Verdict
       judge rs = verdict_of s.rec.head (whole_period s.rec.head) rs
 
-      by_end : Accepts → (b : Bool) → end_known s.rec.head ≡ b → cond b (judge (kept_by (trim_leaves s c))) (Refused EndUnknown) ≡ cond b (judge (kept_by s)) (Refused EndUnknown)
+      by_end : Accepts s c → (b : Bool) → end_known s.rec.head ≡ b → cond b (judge (kept_by (trim_leaves s c))) (Refused EndUnknown) ≡ cond b (judge (kept_by s)) (Refused EndUnknown)
       by_end a true e =
           let h = s.rec.head in
           let m = max s.rec.clock.0 c.0 in
           let far = m + (h.start.0 + h.duration.0) in
           subst⁻¹ (λ w. verdict_of h w (kept_by (trim_leaves s c)) ≡ verdict_of h w (kept_by s)) (whole_is h far z e (omega arith))
-          (picked_verdict h m far (omega arith) a.stays)
+          (still_judged s c a far (omega arith))
       by_end a false e = refl
 
   same_depth : (after s (trim_at c)).rec.head.depth.0 ≡ s.rec.head.depth.0

@@ -35,4 +35,5 @@ pub mod Stamps
 pub mod Distance
 pub mod Update
 pub mod OldAnswers
+pub mod Stays
 pub mod Coverage

@@ -4,7 +4,7 @@
 // loop stopped because the answer is settled, to those bytes with any more behind them. Of a reader whose bytes
 // are known, as one over memory, the line is the answer to them. `run` hands the line to the write, unless a
 // read failed, tells what failed on standard error and ends with it.
-ghost use Rattle.std.specs.Prelude.{IfOk, IfSome, OnErr};
+ghost use Rattle.std.specs.Prelude.{◌≡◌, IfOk, IfSome, OnErr};
 ghost use Rattle.std.specs.Io.{ReadsAtMost};
 ghost use Rattle.report.specs.Running.{Reads, ReadsKnown, Left, Tells, Answered, AnswersKnown};
 
@@ -94,6 +94,7 @@ fn tell(desk: Desk, table: &mut [u64], out: &mut [u8; 93]) -> usize
 fn answer_input<R: Read>(input: &mut R, out: &mut [u8; 93]) -> io::Result<Made>
     ensures answered { IfOk result (λ made. Answered made.stopped out.new made.count) }
     ensures known { IfOk result (λ made. IfSome (R.remaining input.old) (λ known. AnswersKnown known made.stopped out.new made.count)) }
+    ensures failed { OnErr result (out.new ≡ out.old) }
 {
     let mut table = [0u64; 3072];
     let fed = feed_all(input, &mut table)?;
@@ -103,7 +104,8 @@ fn answer_input<R: Read>(input: &mut R, out: &mut [u8; 93]) -> io::Result<Made>
 }
 
 fn read_and_answer<R: Input + Files>(rt: &R, out: &mut [u8; 93]) -> io::Result<Made>
-    ensures { IfOk result (λ made. Answered made.stopped out.new made.count) }
+    ensures answered { IfOk result (λ made. Answered made.stopped out.new made.count) }
+    ensures failed { OnErr result (out.new ≡ out.old) }
 {
     let reader = rt.reader();
     answer_input(&mut StandardInput { rt, reader }, out)
