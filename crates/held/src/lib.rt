@@ -1,5 +1,5 @@
-// For a caller that passes its record by value and is proved without a walk: the calls over a lent record,
-// each over a record that the function holds itself, and a segment that makes two of them.
+// For a caller that passes its record by value: the calls over a lent record, each over a record that the
+// function holds itself, and a segment that makes two of them.
 #![tactic(auto)]
 
 mod following;

@@ -33,7 +33,8 @@ pub struct Desk {
     pub reader: file::Reader,
 }
 
-// Why the program stopped reading: its input has ended, its answer is settled, or a read failed.
+// Why the program stopped reading: its input has ended, its answer is settled, or the turns
+// of its loop are used up. A read that failed is an error.
 #[derive(Clone, Copy)]
 pub enum Stopped {
     Ended,
