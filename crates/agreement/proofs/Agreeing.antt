@@ -3,9 +3,9 @@ use mathlib.Core.Path.{◌≡◌, refl, sym, ap, ap₂, subst⁻¹, ◌∙◌}
 use mathlib.Core.Bool.{Bool, true, false, cond, ◌&&◌, not, and-false, and-eq-true_iff}
 use mathlib.Core.List.{List, [], ◌∷◌}
 use Prim.Native.Nat.{ℕ, ◌-◌, ◌*◌, ◌/◌, ◌≤◌, ◌<◌}
-use borrow.Author.Tests.{eqb-true, le-leb, lt-leb, not-true, not-false}
+use borrow.Author.Tests.{eqb-true, le-leb, lt-leb}
 use lib.Dec.{eqb}
-use lib.ListN.{length, drop}
+use lib.ListN.{length, take, drop}
 use Rattle.window.specs.declared.Reference.{Reference}
 use Rattle.window.specs.Limits.{Held}
 use Rattle.window.specs.Place.{before_end}
@@ -14,6 +14,10 @@ use Rattle.window.specs.References.{EndToStart, Each}
 use Rattle.runs.specs.declared.Run.{Run}
 use Rattle.runs.specs.Words.{runs_of, references_of}
 use Rattle.runs.specs.Shape.{runs_shaped, zeros, shaped}
+use Rattle.std.specs.Prelude.{◌==◌}
+use Rattle.std.specs.List.{list_all}
+use Rattle.std.proofs.lemmas.List.{take_rest}
+use Rattle.agreement.proofs.Zeros.{all_zeros}
 use Rattle.runs.specs.Ends.{last_end, Within}
 use Rattle.runs.proofs.EndToStart.{references_join, references_within, kept_within}
 use Rattle.agreement.specs.declared.Record.{Record}
@@ -52,13 +56,13 @@ some_join (x ∷ xs) u = (x.start.0, references_join x.start.0 (x ∷ xs) u refl
 -- ---- the code's steps
 
 module _ (rec : Record) (ws : List ℕ) (t : Bool) (h : t ≡ record_held rec) where
-  pub not_held : not t ≡ true → false ≡ agrees rec ws
+  pub not_held : t ≡ false → false ≡ agrees rec ws
   unfolding agrees
-  not_held n = sym (ap (λ a. a && shaped rec.used ws && kept_right rec (kept rec ws)) (sym h ∙ not-true t n))
+  not_held n = sym (ap (λ a. a && shaped rec.used ws && kept_right rec (kept rec ws)) (sym h ∙ n))
 
-  module _ (n : not t ≡ false) where
+  module _ (n : t ≡ true) where
     pub is_held : record_held rec ≡ true
-    is_held = sym h ∙ not-false t n
+    is_held = sym h ∙ n
 
     pub no_capacity : length ws / 3 < rec.used → false ≡ agrees rec ws
     unfolding agrees
@@ -68,26 +72,26 @@ module _ (rec : Record) (ws : List ℕ) (t : Bool) (h : t ≡ record_held rec) w
         is_held
         (lt-leb rec.used (length ws / 3) l))
 
-    module _ (l : rec.used ≤ length ws / 3) (z : Bool) (k : z ≡ zeros (drop (3 * rec.used) ws)) where
+    module _ (l : rec.used ≤ length ws / 3) (z : Bool) (k : z ≡ list_all (λ w. w == 0) (take (length ws - 3 * rec.used) (drop (3 * rec.used) ws))) where
       agrees_by : agrees rec ws ≡ ((runs_shaped (runs_of rec.used ws) && z) && kept_right rec (kept rec ws))
       unfolding agrees
       agrees_by =
           ap₂ (λ a b. a && (b && runs_shaped (runs_of rec.used ws) && zeros (drop (3 * rec.used) ws)) && kept_right rec (kept rec ws))
           is_held
           (le-leb rec.used (length ws / 3) l) ∙
-          ap (λ b. (runs_shaped (runs_of rec.used ws) && b) && kept_right rec (kept rec ws)) (sym k)
+          ap (λ b. (runs_shaped (runs_of rec.used ws) && b) && kept_right rec (kept rec ws)) (sym (k ∙ ap (list_all (λ w. w == 0)) (take_rest ws (3 * rec.used)) ∙ all_zeros (drop (3 * rec.used) ws)))
 
-      pub not_zeros : not z ≡ true → false ≡ agrees rec ws
-      not_zeros m = sym (agrees_by ∙ ap (λ b. b && kept_right rec (kept rec ws)) (ap (λ b. runs_shaped (runs_of rec.used ws) && b) (not-true z m) ∙ and-false (runs_shaped (runs_of rec.used ws))))
+      pub not_zeros : z ≡ false → z ≡ agrees rec ws
+      not_zeros m = m ∙ sym (agrees_by ∙ ap (λ b. b && kept_right rec (kept rec ws)) (ap (λ b. runs_shaped (runs_of rec.used ws) && b) m ∙ and-false (runs_shaped (runs_of rec.used ws))))
 
-      pub agrees_found : not z ≡ false → (x : Found) → x ≡ found (runs_of rec.used ws) → (b : Bool) → b ≡ found_right rec x → b ≡ agrees rec ws
+      pub agrees_found : z ≡ true → (x : Found) → x ≡ found (runs_of rec.used ws) → (b : Bool) → b ≡ found_right rec x → b ≡ agrees rec ws
       agrees_found m x e b f = f ∙ ap (found_right rec) e ∙ go (runs_shaped (runs_of rec.used ws)) refl ∙ sym agrees_by
         where
           go : (s : Bool) → runs_shaped (runs_of rec.used ws) ≡ s →
               found_right rec (cond s (summary (kept rec ws)) Unshaped) ≡ ((s && z) && kept_right rec (kept rec ws))
           go true u =
               let j = some_join (runs_of rec.used ws) u in
-              right_is rec j.0 (kept rec ws) j.1 ∙ ap (λ c. c && kept_right rec (kept rec ws)) (sym (not-false z m))
+              right_is rec j.0 (kept rec ws) j.1 ∙ ap (λ c. c && kept_right rec (kept rec ws)) (sym m)
           go false u = refl
 
 -- ---- what agreement gives

@@ -1,32 +1,27 @@
 -- Agreement by its tests: what the first, the last and the count of the kept references say of them all.
-use mathlib.Core.Path.{◌≡◌, refl, sym, ap, ap₂, subst, ◌∙◌}
+use mathlib.Core.Path.{◌≡◌, refl, sym, ap, ap₂, ◌∙◌}
 use mathlib.Core.Bool.{Bool, true, false, ◌&&◌, not, and-true, and-false, and-eq-true_iff}
 use mathlib.Core.List.{List, [], ◌∷◌}
-use Prim.Native.Nat.{ℕ, suc, ◌+◌, ◌-◌, ◌^◌, ◌≤◌, ◌<◌}
+use Prim.Native.Nat.{ℕ, suc, ◌+◌, ◌-◌, ◌^◌, ◌≤◌}
 use native.Mathlib.Nat.{le_refl}
 use native.Mathlib.Omega.{arith}
-use borrow.Author.Tests.{leb-true, leb-false, le-leb, lt-leb, eq-eqb, ne_eqb}
+use borrow.Author.Tests.{leb-true, le-leb, eq-eqb}
 use lib.Dec.{leb, eqb}
 use lib.ListN.{length}
 use Rattle.units.specs.Limits.{largest_tick, largest_millis, largest_number, tick_held, millis_held}
 use Rattle.window.specs.declared.Head.{Head}
 use Rattle.window.specs.declared.Reference.{Reference}
-use Rattle.window.specs.declared.Passed.{Passed}
-use Rattle.window.specs.declared.Passed.TheVariants.{Upto}
 use Rattle.window.specs.Limits.{head_held, Held}
 use Rattle.window.specs.Place.{before_end}
 use Rattle.window.specs.Window.{end_of, passed}
-use Rattle.window.specs.Ticks.{is_passed, EndsPassed}
 use Rattle.window.specs.References.{EndToStart}
 use Rattle.window.proofs.Limits.{held_is}
 use Rattle.window.proofs.Unsigned.{before_earlier}
 use Rattle.window.proofs.Spending.{coming_later}
 use Rattle.runs.specs.Ends.{last_end, Within}
 use Rattle.agreement.specs.declared.Record.{Record}
-use Rattle.agreement.specs.declared.Found.{Found}
-use Rattle.agreement.specs.declared.Found.TheVariants.{Nothing, Kept}
 use Rattle.agreement.specs.Agreement.{every, counts_held, record_held, kept_right}
-use Rattle.agreement.specs.Finding.{last_of, summary, Sized, found_right}
+use Rattle.agreement.specs.Finding.{last_of, summary, found_right}
 
 -- ---- the limits
 
@@ -64,24 +59,6 @@ record_held_lem rec f =
     (le-leb rec.clock.0 largest_millis f.clock))
     (le-leb rec.dropped rec.accepted f.dropped))
     (ap₂ ◌&&◌ (le-leb rec.accepted (2 ^ 31) f.accepted) (le-leb (rec.head.first.0 + rec.accepted) largest_number f.numbers))
-
-module _ (first accepted : ℕ) where
-  pub too_many : 2 ^ 31 < accepted → false ≡ counts_held first accepted
-  too_many l = sym (ap (λ t. t && leb (first + accepted) largest_number) (lt-leb accepted (2 ^ 31) l))
-
-  pub counted_by : accepted ≤ 2 ^ 31 → leb first (largest_number - accepted) ≡ counts_held first accepted
-  counted_by l = go (leb first (largest_number - accepted)) refl ∙ sym (ap (λ t. t && leb (first + accepted) largest_number) (le-leb accepted (2 ^ 31) l))
-    where
-      go : (t : Bool) → leb first (largest_number - accepted) ≡ t → t ≡ leb (first + accepted) largest_number
-      go true e = let m : first ≤ largest_number - accepted = leb-true first (largest_number - accepted) e in sym (le-leb (first + accepted) largest_number (omega arith))
-      go false e = let m : largest_number - accepted < first = leb-false first (largest_number - accepted) e in sym (lt-leb (first + accepted) largest_number (omega arith))
-
-pub upto_passed : (p : Passed) (t : ℕ) (end : ℕ) → p ≡ Upto (record { 0 = t }) → leb end t ≡ is_passed p end
-upto_passed p t end e = sym (ap (λ q. is_passed q end) e)
-
-pub tests_held : (rec : Record) (h n c d k : Bool) → h ≡ head_held rec.head → n ≡ tick_held rec.next → c ≡ millis_held rec.clock →
-    d ≡ leb rec.dropped rec.accepted → k ≡ counts_held rec.head.first.0 rec.accepted → (h && n && c && d && k) ≡ record_held rec
-tests_held rec h n c d k eh en ec ed ek = ap₂ ◌&&◌ (ap₂ ◌&&◌ (ap₂ ◌&&◌ (ap₂ ◌&&◌ eh en) ec) ed) ek
 
 -- ---- the first and the last speak for all
 
@@ -146,54 +123,11 @@ right_is rec t (r ∷ rs) j =
     (all_coming rec.head rec.clock.0 t r rs j))
     (all_begun rec.head rec.clock.0 t r rs j))
 
--- ---- the code's steps
-
--- the four tests of a found list, each by what is known of it
-four : {a b c d x y z w : Bool} → a ≡ x → b ≡ y → c ≡ z → d ≡ w → (a && b && c && d) ≡ (x && y && z && w)
-four p q r s = ap₂ ◌&&◌ (ap₂ ◌&&◌ (ap₂ ◌&&◌ p q) r) s
-
-module _ (rec : Record) (f l : Reference) (n : ℕ) where
-  pub keeps_count : (n ≡ rec.accepted - rec.dropped → ⊥) → false ≡ found_right rec (Kept f l n)
-  keeps_count e = sym (four (ne_eqb n (rec.accepted - rec.dropped) e) refl refl refl)
-
-  module _ (e : n ≡ rec.accepted - rec.dropped) where
-    counted : eqb n (rec.accepted - rec.dropped) ≡ true
-    counted = eq-eqb n (rec.accepted - rec.dropped) e
-
-    pub keeps_end : (end_of l ≡ rec.next.0 → ⊥) → false ≡ found_right rec (Kept f l n)
-    keeps_end k = sym (four counted (ne_eqb (end_of l) rec.next.0 k) refl refl)
-
-    module _ (k : end_of l ≡ rec.next.0) (p : Passed) (w : EndsPassed rec.head rec.clock.0 p) (t : Bool) (s : t ≡ is_passed p (end_of f)) where
-      spent_is : passed rec.head (end_of f) rec.clock.0 ≡ t
-      spent_is = w (end_of f) ∙ sym s
-
-      joined : eqb (end_of l) rec.next.0 ≡ true
-      joined = eq-eqb (end_of l) rec.next.0 k
-
-      pub keeps_spent : t ≡ true → false ≡ found_right rec (Kept f l n)
-      keeps_spent v = sym (four counted joined (ap not (spent_is ∙ v)) refl)
-
-      pub keeps_begun : t ≡ false → (b : Bool) → b ≡ before_end rec.head l.start.0 → b ≡ found_right rec (Kept f l n)
-      keeps_begun v b u = u ∙ sym (four counted joined (ap not (spent_is ∙ v)) refl)
+-- ---- what the steps ask
 
 module _ (rec : Record) (held : record_held rec ≡ true) where
-  pub drops : rec.dropped ≤ rec.accepted
-  drops = (record_facts rec held).dropped
-
   pub asks_passed : Held rec.head × (rec.clock.0 ≤ largest_millis)
   asks_passed = ((record_facts rec held).head, (record_facts rec held).clock)
 
   pub asks_before : (l : Reference) → Within l → Held rec.head × (l.start.0 ≤ largest_tick)
   asks_before l w = ((record_facts rec held).head, omega (arith, w.ends))
-
-  -- what was found, by its case
-  module _ (x : Found) where
-    pub fits_nothing : x ≡ Nothing → eqb 0 (rec.accepted - rec.dropped) ≡ found_right rec x
-    fits_nothing e = sym (ap (found_right rec) e)
-
-    module _ (f l : Reference) (n : ℕ) (e : x ≡ Kept f l n) where
-      pub asks_keeps : Sized x → (record_held rec ≡ true) × Sized (Kept f l n)
-      asks_keeps s = (held, subst Sized e s)
-
-      pub fits_kept : (b : Bool) → b ≡ found_right rec (Kept f l n) → b ≡ found_right rec x
-      fits_kept b k = k ∙ sym (ap (found_right rec) e)

@@ -3,18 +3,16 @@ use mathlib.Core.Path.{◌≡◌, refl, sym, ap, ap₂, ◌∙◌}
 use mathlib.Core.Bool.{Bool, true, false, cond, ◌&&◌, not, and-eq-true_iff}
 use lib.Dec.{eqb}
 use mathlib.Core.List.{List, [], ◌∷◌, ◌++◌, append-nil}
-use Prim.Native.Nat.{ℕ, zero, suc, ◌+◌, ◌-◌, ◌*◌, ◌≤◌, ◌<◌}
+use Prim.Native.Nat.{ℕ, zero, suc, ◌+◌, ◌-◌, ◌*◌, ◌≤◌}
 use native.Mathlib.Nat.{add_assoc, mul-zero, mul-suc, mul-le-mul_right, one-mul}
 use native.Mathlib.Omega.{arith}
-use borrow.Author.Tests.{eqb-true, not-true, not-false}
-use lib.ListN.{length, drop, length-append}
-use mir.Syntax.{w64}
-use mir.Val.{Fits}
+use borrow.Author.Tests.{eqb-true}
+use lib.ListN.{length-append}
 use Rattle.window.specs.declared.Reference.{Reference}
 use Rattle.runs.specs.declared.Run.{Run}
-use Rattle.runs.specs.Words.{run_at, runs_of, run_end, repeated, references_of, total_count}
+use Rattle.runs.specs.Words.{run_end, repeated, reference_behind, references_of, total_count}
 use Rattle.runs.specs.Shape.{run_held, follows, followed_by, runs_shaped}
-use Rattle.runs.proofs.Opening.{run_opens, repeated_length, references_length}
+use Rattle.runs.proofs.Opening.{repeated_length, references_length}
 use Rattle.runs.proofs.Encoded.{run_facts, leads, ref}
 use Rattle.agreement.specs.declared.Found.{Found}
 use Rattle.agreement.specs.declared.Found.TheVariants.{Unshaped, Nothing, Kept}
@@ -101,15 +99,15 @@ found_is f rs =
 
 -- ---- the code's steps
 
-pub record Passing (ws : List ℕ) (used : ℕ) (first last : Run) (n i left : ℕ) : Type 0 where
-  pub words : i + 3 * left ≤ length ws
+-- the pass from a run on: the last run seen is held, no more references were counted than ticks, and what is left decides
+pub record Passing (all : List Run) (first last : Run) (n : ℕ) (left : List Run) : Type 0 where
   pub held : run_held last ≡ true
   pub few : n ≤ run_end last
-  pub rest : after first last n (runs_of left (drop i ws)) ≡ found (runs_of used ws)
+  pub rest : after first last n left ≡ found all
 
-pub scan_none : (ws : List ℕ) (used : ℕ) → used ≡ 0 → Nothing ≡ found (runs_of used ws)
-unfolding runs_of runs_shaped references_of
-scan_none ws used e = ap (λ (n : ℕ). found (runs_of n ws)) (sym e)
+pub scan_none : (all : List Run) → all ≡ [] → Nothing ≡ found all
+unfolding runs_shaped references_of
+scan_none all e = ap found (sym e)
 
 -- a run holds no more references than ticks
 counted : (r : Run) → run_held r ≡ true → (n : ℕ) → n ≤ r.start.0 → n + r.count ≤ run_end r
@@ -118,71 +116,55 @@ counted r h n l =
     let m : 1 * r.count ≤ r.span.0 * r.count = mul-le-mul_right r.count f.lasts in
     omega (arith, one-mul r.count)
 
-module _ (ws : List ℕ) (used : ℕ) (some : used ≡ 0 → ⊥) (x : Run) (e : x ≡ run_at ws 0) (t : Bool) (h : t ≡ run_held x) where
-  starts : found (runs_of used ws) ≡ cond t (after x x x.count (runs_of (used - 1) (drop 3 ws))) Unshaped
-  starts =
-      ap found (run_opens used 0 ws (omega arith) ∙ ap (λ r. r ∷ runs_of (used - 1) (drop 3 ws)) (sym e)) ∙
-      found_is x (runs_of (used - 1) (drop 3 ws)) ∙
-      ap (λ s. cond s (after x x x.count (runs_of (used - 1) (drop 3 ws))) Unshaped) (sym h)
+module _ (all : List Run) (x : Run) (others : List Run) (opens : all ≡ x ∷ others) (t : Bool) (h : t ≡ run_held x) where
+  starts : found all ≡ cond t (after x x x.count others) Unshaped
+  starts = ap found opens ∙ found_is x others ∙ ap (λ s. cond s (after x x x.count others) Unshaped) (sym h)
 
-  pub scan_unheld : not t ≡ true → Unshaped ≡ found (runs_of used ws)
-  scan_unheld n = sym (starts ∙ ap (λ s. cond s (after x x x.count (runs_of (used - 1) (drop 3 ws))) Unshaped) (not-true t n))
+  pub scan_unheld : t ≡ false → Unshaped ≡ found all
+  scan_unheld n = sym (starts ∙ ap (λ s. cond s (after x x x.count others) Unshaped) n)
 
-  pub scan_holds : not t ≡ false → 3 * used ≤ length ws → Passing ws used x x x.count 3 (used - 1)
-  scan_holds n l =
-      let k : run_held x ≡ true = sym h ∙ not-false t n in
+  pub scan_holds : t ≡ true → (left : List Run) → left ≡ others → Passing all x x x.count left
+  scan_holds n left same =
+      let k : run_held x ≡ true = sym h ∙ n in
       record {
-        words = omega arith;
         held = k;
         few = omega (arith, counted x k 0 (omega arith));
-        rest = sym (starts ∙ ap (λ s. cond s (after x x x.count (runs_of (used - 1) (drop 3 ws))) Unshaped) (not-false t n));
+        rest = ap (after x x x.count) same ∙ sym (starts ∙ ap (λ s. cond s (after x x x.count others) Unshaped) n);
       }
 
-module _ (ws : List ℕ) (used : ℕ) (first last : Run) (n i left : ℕ) (p : Passing ws used first last n i left) where
-  pub scan_room : 0 < left → i + 2 < length ws
-  scan_room l = omega (arith, p.words)
+module _ (all : List Run) (first last : Run) (n : ℕ) (left : List Run) (p : Passing all first last n left) where
+  pub scan_ends : left ≡ [] → (f l : Reference) → f ≡ reference_behind first 0 → l ≡ last_in last → Kept f l n ≡ found all
+  unfolding after
+  scan_ends none f l e k =
+      let front : reference_behind first 0 ≡ first_in first = ap (λ (s : ℕ). ref s first.span.0) (omega (arith, mul-zero first.span.0)) in
+      ap₂ (λ a b. Kept a b n) (e ∙ front) k ∙ ap (after first last n) (sym none) ∙ p.rest
 
-  pub scan_ends : left ≤ 0 → (f l : Reference) → f ≡ first_in first → l ≡ last_in last → Kept f l n ≡ found (runs_of used ws)
-  unfolding runs_of after
-  scan_ends z f l e k =
-      let none : 0 ≡ left = omega arith in
-      ap₂ (λ a b. Kept a b n) e k ∙ ap (λ (m : ℕ). after first last n (runs_of m (drop i ws))) none ∙ p.rest
-
-  module _ (some : 0 < left) (x : Run) (e : x ≡ run_at ws i) (j : Bool) (k : j ≡ follows last x) where
-    goes : found (runs_of used ws) ≡ cond j (cond (run_held x) (after first x (n + x.count) (runs_of (left - 1) (drop (i + 3) ws))) Unshaped) Unshaped
+  module _ (x : Run) (others : List Run) (opens : left ≡ x ∷ others) (j : Bool) (k : j ≡ follows last x) where
+    goes : found all ≡ cond j (cond (run_held x) (after first x (n + x.count) others) Unshaped) Unshaped
     unfolding after
-    goes =
-        sym p.rest ∙
-        ap (after first last n) (run_opens left i ws some ∙ ap (λ r. r ∷ runs_of (left - 1) (drop (i + 3) ws)) (sym e)) ∙
-        ap (λ s. cond s (cond (run_held x) (after first x (n + x.count) (runs_of (left - 1) (drop (i + 3) ws))) Unshaped) Unshaped) (sym k)
+    goes = sym p.rest ∙ ap (after first last n) opens ∙ ap (λ s. cond s (cond (run_held x) (after first x (n + x.count) others) Unshaped) Unshaped) (sym k)
 
-    pub scan_apart : not j ≡ true → Unshaped ≡ found (runs_of used ws)
-    scan_apart m = sym (goes ∙ ap (λ s. cond s (cond (run_held x) (after first x (n + x.count) (runs_of (left - 1) (drop (i + 3) ws))) Unshaped) Unshaped) (not-true j m))
+    pub scan_apart : j ≡ false → Unshaped ≡ found all
+    scan_apart m = sym (goes ∙ ap (λ s. cond s (cond (run_held x) (after first x (n + x.count) others) Unshaped) Unshaped) m)
 
-    module _ (m : not j ≡ false) (t : Bool) (h : t ≡ run_held x) where
-      goes_on_lem : found (runs_of used ws) ≡ cond t (after first x (n + x.count) (runs_of (left - 1) (drop (i + 3) ws))) Unshaped
-      goes_on_lem =
-          goes ∙
-          ap₂ (λ s u. cond s (cond u (after first x (n + x.count) (runs_of (left - 1) (drop (i + 3) ws))) Unshaped) Unshaped) (not-false j m) (sym h)
+    module _ (m : j ≡ true) (t : Bool) (h : t ≡ run_held x) where
+      goes_on_lem : found all ≡ cond t (after first x (n + x.count) others) Unshaped
+      goes_on_lem = goes ∙ ap₂ (λ s u. cond s (cond u (after first x (n + x.count) others) Unshaped) Unshaped) m (sym h)
 
-      pub scan_broken : not t ≡ true → Unshaped ≡ found (runs_of used ws)
-      scan_broken o = sym (goes_on_lem ∙ ap (λ s. cond s (after first x (n + x.count) (runs_of (left - 1) (drop (i + 3) ws))) Unshaped) (not-true t o))
+      pub scan_broken : t ≡ false → Unshaped ≡ found all
+      scan_broken o = sym (goes_on_lem ∙ ap (λ s. cond s (after first x (n + x.count) others) Unshaped) o)
 
       joined : run_end last ≡ x.start.0
-      joined = eqb-true (run_end last) x.start.0 ((and-eq-true_iff (eqb (run_end last) x.start.0) (not (eqb last.span.0 x.span.0))).0 (sym k ∙ not-false j m)).0
+      joined = eqb-true (run_end last) x.start.0 ((and-eq-true_iff (eqb (run_end last) x.start.0) (not (eqb last.span.0 x.span.0))).0 (sym k ∙ m)).0
 
-      module _ (o : not t ≡ false) where
+      module _ (o : t ≡ true) where
         more : n + x.count ≤ run_end x
-        more = counted x (sym h ∙ not-false t o) n (omega (arith, p.few, joined))
+        more = counted x (sym h ∙ o) n (omega (arith, p.few, joined))
 
-        pub scan_fits : Fits w64 (n + x.count)
-        scan_fits = record { fits = omega (arith, more, (run_facts x (sym h ∙ not-false t o)).ends) }
-
-        pub scan_again : Passing ws used first x (n + x.count) (i + 3) (left - 1)
+        pub scan_again : Passing all first x (n + x.count) others
         scan_again =
             record {
-              words = omega (arith, p.words);
-              held = sym h ∙ not-false t o;
+              held = sym h ∙ o;
               few = more;
-              rest = sym (goes_on_lem ∙ ap (λ s. cond s (after first x (n + x.count) (runs_of (left - 1) (drop (i + 3) ws))) Unshaped) (not-false t o));
+              rest = sym (goes_on_lem ∙ ap (λ s. cond s (after first x (n + x.count) others) Unshaped) o);
             }

@@ -1,14 +1,21 @@
--- Words that are all 0, from a place on.
-use mathlib.Core.Path.{◌≡◌, sym, ap, ◌∙◌}
+-- Words that are all 0, and those that are so from a place on.
+use mathlib.Core.Path.{◌≡◌, refl, sym, ap, ◌∙◌}
 use mathlib.Core.Bool.{Bool, true, false, ◌&&◌}
-use mathlib.Core.List.{List}
+use mathlib.Core.List.{List, [], ◌∷◌}
 use Prim.Native.Nat.{ℕ, ◌+◌, ◌≤◌, ◌<◌}
 use native.Mathlib.Numerals.{add-one}
 use borrow.Author.Tests.{eq-eqb, ne_eqb}
 use lib.Dec.{eqb}
 use lib.ListN.{length, get_or, drop, drop_of_length-le}
 use lib.Seq.{drop-cons}
+use Rattle.std.specs.Prelude.{◌==◌}
+use Rattle.std.specs.List.{list_all}
 use Rattle.runs.specs.Shape.{zeros}
+
+pub all_zeros : (ws : List ℕ) → list_all (λ w. w == 0) ws ≡ zeros ws
+unfolding zeros
+all_zeros [] = refl
+all_zeros (w ∷ ws) = ap (λ t. w == 0 && t) (all_zeros ws)
 
 module _ (ws : List ℕ) (i : ℕ) where
   here : i < length ws → zeros (drop i ws) ≡ (eqb (get_or ws i 0) 0 && zeros (drop (i + 1) ws))

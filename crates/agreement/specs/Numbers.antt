@@ -1,5 +1,5 @@
 -- The paper's number of each refusal, and the distance that a gap and an overlap have. Paper: Refusal numbers.
-use Rattle.std.specs.Prelude.{ℕ}
+use Rattle.std.specs.Prelude.{ℕ, Result, Ok, Err}
 use Rattle.agreement.specs.declared.refusal.Refusal.{Refusal}
 use Rattle.agreement.specs.declared.refusal.Refusal.TheVariants.{OverLimit, Disagreement, NothingGiven, Gap, Overlap, TickLimit, CountLimit, PastEnd, NoRunLeft, ClockLimit, EarlierClock, NothingKept, NotKept, EmptySpan, ShortOutput, BadLine, BadOrder, NoEndToReach, EndUnknown}
 
@@ -64,3 +64,12 @@ refusal_distance BadLine = 0
 refusal_distance BadOrder = 0
 refusal_distance NoEndToReach = 0
 refusal_distance EndUnknown = 0
+
+-- the same of an answer: 0 where the call was not refused
+abbrev pub answer_number : {A : Type 0} → Result A Refusal → ℕ
+answer_number (Ok x) = 0
+answer_number (Err why) = refusal_number why
+
+abbrev pub answer_distance : {A : Type 0} → Result A Refusal → ℕ
+answer_distance (Ok x) = 0
+answer_distance (Err why) = refusal_distance why

@@ -4,10 +4,10 @@ ghost use Rattle.window.specs.Ticks.{is_passed};
 ghost use Rattle.agreement.specs.Agreement.{counts_held, record_held, agrees};
 ghost use Rattle.agreement.specs.Finding.{Sized, found_right};
 
-use crate::scan::{scan, zeros_from};
+use crate::scan::{all_zero, scan};
 use crate::{Found, Record};
-use units::{Number, WideTick};
-use window::{Passed, Reference};
+use units::{Limited, Number, WideTick};
+use window::{HeldHead, Passed, Reference};
 
 // How many references a timeline may ever accept.
 const MOST_ACCEPTED: u64 = 2_147_483_648;
@@ -16,13 +16,10 @@ const MOST_ACCEPTED: u64 = 2_147_483_648;
 pub fn counts_held(first: Number, accepted: u64) -> bool
     ensures { result ≡ counts_held first.0 accepted }
 {
-    if MOST_ACCEPTED < accepted {
-        return false;
-    }
-    first.0 <= Number::LARGEST - accepted
+    accepted <= MOST_ACCEPTED && first.0 <= Number::LARGEST - accepted
 }
 
-// Whether an end is among those that are passed.
+// Whether an end is among those that are passed. No method, since `Passed` is another crate's.
 pub fn is_passed(passed: Passed, end: WideTick) -> bool
     ensures { result ≡ is_passed passed end.0 }
 {
@@ -37,12 +34,11 @@ impl Record {
     pub fn held(self) -> bool
         ensures { result ≡ record_held self }
     {
-        let head = self.head.held();
-        let next = self.next.held();
-        let clock = self.clock.held();
-        let dropped = self.dropped <= self.accepted;
-        let counts = counts_held(self.head.first, self.accepted);
-        head & next & clock & dropped & counts
+        self.head.held()
+            && self.next.held()
+            && self.clock.held()
+            && self.dropped <= self.accepted
+            && counts_held(self.head.first, self.accepted)
     }
 
     // Inner: callers show that the limits are held, so that the sums fit.
@@ -50,18 +46,13 @@ impl Record {
         requires { (record_held self ≡ true) × Sized (Found.Kept first last n) }
         ensures { result ≡ found_right self (Found.Kept first last n) }
     {
-        if n != self.accepted - self.dropped {
+        if n != self.accepted - self.dropped || last.start.0 + last.span.0 != self.next.0 {
             return false;
         }
-        if last.start.0 + last.span.0 != self.next.0 {
-            return false;
-        }
-        let passed = self.head.passed_ends(self.clock);
+        let head = HeldHead { head: self.head };
+        let passed = head.passed_ends(self.clock);
         let end = WideTick(first.start.0 + first.span.0);
-        if is_passed(passed, end) {
-            return false;
-        }
-        self.head.before_end(last.start)
+        !is_passed(passed, end) && head.before_end(last.start)
     }
 
     // Inner: callers show that the limits are held.
@@ -80,16 +71,9 @@ impl Record {
     pub fn agrees(self, table: &[u64]) -> bool
         ensures { result ≡ agrees self table.now }
     {
-        if !self.held() {
+        if !self.held() || table.len() / 3 < self.used {
             return false;
         }
-        let used = self.used;
-        if table.len() / 3 < used {
-            return false;
-        }
-        if !zeros_from(table, 3 * used) {
-            return false;
-        }
-        self.fits(scan(table, used))
+        all_zero(&table[3 * self.used..]) && self.fits(scan(table, self.used))
     }
 }

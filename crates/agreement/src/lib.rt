@@ -9,10 +9,10 @@ mod refusal;
 mod scan;
 
 pub use judge::{counts_held, is_passed};
-pub use refusal::Refusal;
+pub use refusal::{Refusal, distance_of, number_of};
 
 // What is kept beside the table: the head, the counts, the next tick, the greatest clock.
-#[derive(Clone, Copy)]
+#[derive(Clone, Copy, Default)]
 pub struct Record {
     pub head: Head,
     pub accepted: u64,

@@ -1,7 +1,7 @@
 // Why a call is refused, a case for each of the paper's numbers. A gap and an overlap say how far the
 // start lies from the next tick.
 ghost use Rattle.std.specs.Prelude.{◌≡◌};
-ghost use Rattle.agreement.specs.Numbers.{refusal_number, refusal_distance};
+ghost use Rattle.agreement.specs.Numbers.{refusal_number, refusal_distance, answer_number, answer_distance};
 
 use units::Distance;
 
@@ -54,14 +54,34 @@ impl Refusal {
             Refusal::EndUnknown => 19,
         }
     }
+
     // How far the start of a refused append lies from the next tick, 0 where that is not why.
     pub fn distance(self) -> u64
         ensures { result ≡ refusal_distance self }
     {
         match self {
-            Refusal::Gap(distance) => distance.0,
-            Refusal::Overlap(distance) => distance.0,
+            Refusal::Gap(distance) | Refusal::Overlap(distance) => distance.0,
             _ => 0,
         }
+    }
+}
+
+// The number of the refusal that an answer is, 0 where the call was not refused.
+pub fn number_of<T>(answer: &Result<T, Refusal>) -> u32
+    ensures { result ≡ answer_number answer.now }
+{
+    match answer {
+        Ok(_) => 0,
+        Err(why) => why.number(),
+    }
+}
+
+// Its distance, 0 where the call was not refused.
+pub fn distance_of<T>(answer: &Result<T, Refusal>) -> u64
+    ensures { result ≡ answer_distance answer.now }
+{
+    match answer {
+        Ok(_) => 0,
+        Err(why) => why.distance(),
     }
 }

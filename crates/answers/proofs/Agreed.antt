@@ -7,7 +7,8 @@ use Prim.Native.Nat.{ℕ, ◌<◌}
 use native.Mathlib.Omega.{arith}
 use lib.ListN.{length, get_or}
 use Rattle.window.specs.Window.{Stretch}
-use Rattle.window.specs.declared.Needed.{Needed}
+use Rattle.std.specs.Prelude.{Option}
+use Rattle.window.specs.declared.Ticks.{Ticks}
 use Rattle.window.specs.Ticks.{named, NeededTicks}
 use Rattle.runs.specs.Words.{runs_of, references_of, kept_in}
 use Rattle.runs.proofs.EndToStart.{kept_join, kept_end}
@@ -46,6 +47,6 @@ module _ (rec : Record) (ws : List ℕ) (a : agrees rec ws ≡ true) where
   kept_cover from r = reach_cover from rec.next.0 (kept rec ws) r (agree_within rec ws a)
 
   -- the verdict that the code finds is the one of the kept references
-  pub agreed_verdict : (w : Stretch) (x : Needed) (from : ℕ) (v : Verdict) → NeededTicks rec.head w x → Reach from rec.next.0 (kept rec ws) →
+  pub agreed_verdict : (w : Stretch) (x : Option Ticks) (from : ℕ) (v : Verdict) → NeededTicks rec.head w x → Reach from rec.next.0 (kept rec ws) →
       v ≡ verdict_by (named x) (in_range from rec.next.0) (past_named x) → v ≡ verdict_of rec.head w (kept rec ws)
   agreed_verdict w x from v n r e = e ∙ verdict_ranges rec.head w (kept rec ws) x from rec.next.0 n r (agree_within rec ws a)

@@ -11,10 +11,12 @@ use Rattle.units.specs.Limits.{clock_held}
 use Rattle.window.specs.Place.{end_known}
 use Rattle.window.specs.Window.{window_at, whole_period}
 use Rattle.agreement.specs.declared.Record.{Record}
+use Rattle.std.specs.Prelude.{Result, Err, Ok}
+use Rattle.agreement.specs.declared.refusal.Refusal.{Refusal}
 use Rattle.agreement.specs.declared.refusal.Refusal.TheVariants.{Disagreement, ClockLimit, EarlierClock, EndUnknown}
 use Rattle.agreement.specs.Agreement.{agrees, kept}
 use Rattle.answers.specs.declared.Verdict.{Verdict}
-use Rattle.answers.specs.declared.Verdict.TheVariants.{Nothing, Complete, Lacking, Refused}
+use Rattle.answers.specs.declared.Verdict.TheVariants.{Nothing, Complete, Lacking}
 use Rattle.answers.specs.Judgement.{judged, verdict_of, verdict_at, verdict_whole}
 use Rattle.answers.proofs.Counting.{some_of, apart}
 
@@ -42,19 +44,19 @@ module _ (n c l : ℕ) where
 
 module _ (rec : Record) (ws : List ℕ) where
   module _ (c : WideMillis) where
-    judged_at : Bool → Bool → Bool → Verdict
+    judged_at : Bool → Bool → Bool → Result Verdict Refusal
     judged_at s t u =
-        cond s (cond t (cond u (verdict_of rec.head (window_at rec.head c.0) (kept rec ws)) (Refused EarlierClock)) (Refused ClockLimit)) (Refused Disagreement)
+        cond s (cond t (cond u (Ok (verdict_of rec.head (window_at rec.head c.0) (kept rec ws))) (Err EarlierClock)) (Err ClockLimit)) (Err Disagreement)
 
     pub asked_at : agrees rec ws ≡ true → clock_held c ≡ true → leb rec.clock.0 c.0 ≡ true →
-        verdict_at rec ws c ≡ verdict_of rec.head (window_at rec.head c.0) (kept rec ws)
+        verdict_at rec ws c ≡ Ok (verdict_of rec.head (window_at rec.head c.0) (kept rec ws))
     unfolding judged_at
     asked_at a m l = ap (λ s. judged_at s (clock_held c) (leb rec.clock.0 c.0)) a ∙ ap₂ (judged_at true) m l
 
-    pub by_asked_at : (A : Verdict → Type 0) → (agrees rec ws ≡ false → A (Refused Disagreement)) →
-        (agrees rec ws ≡ true → clock_held c ≡ false → A (Refused ClockLimit)) →
-        (agrees rec ws ≡ true → clock_held c ≡ true → leb rec.clock.0 c.0 ≡ false → A (Refused EarlierClock)) →
-        (agrees rec ws ≡ true → clock_held c ≡ true → leb rec.clock.0 c.0 ≡ true → A (verdict_of rec.head (window_at rec.head c.0) (kept rec ws))) →
+    pub by_asked_at : (A : Result Verdict Refusal → Type 0) → (agrees rec ws ≡ false → A (Err Disagreement)) →
+        (agrees rec ws ≡ true → clock_held c ≡ false → A (Err ClockLimit)) →
+        (agrees rec ws ≡ true → clock_held c ≡ true → leb rec.clock.0 c.0 ≡ false → A (Err EarlierClock)) →
+        (agrees rec ws ≡ true → clock_held c ≡ true → leb rec.clock.0 c.0 ≡ true → A (Ok (verdict_of rec.head (window_at rec.head c.0) (kept rec ws)))) →
         A (verdict_at rec ws c)
     unfolding judged_at
     by_asked_at A disagree over early asked = go (agrees rec ws) refl (clock_held c) refl (leb rec.clock.0 c.0) refl
@@ -65,16 +67,16 @@ module _ (rec : Record) (ws : List ℕ) where
         go true a false m u l = over a m
         go false a t m u l = disagree a
 
-  judged_whole : Bool → Bool → Verdict
-  judged_whole s t = cond s (cond t (verdict_of rec.head (whole_period rec.head) (kept rec ws)) (Refused EndUnknown)) (Refused Disagreement)
+  judged_whole : Bool → Bool → Result Verdict Refusal
+  judged_whole s t = cond s (cond t (Ok (verdict_of rec.head (whole_period rec.head) (kept rec ws))) (Err EndUnknown)) (Err Disagreement)
 
-  pub asked_whole : agrees rec ws ≡ true → end_known rec.head ≡ true → verdict_whole rec ws ≡ verdict_of rec.head (whole_period rec.head) (kept rec ws)
+  pub asked_whole : agrees rec ws ≡ true → end_known rec.head ≡ true → verdict_whole rec ws ≡ Ok (verdict_of rec.head (whole_period rec.head) (kept rec ws))
   unfolding judged_whole
   asked_whole a k = ap₂ judged_whole a k
 
-  pub by_asked_whole : (A : Verdict → Type 0) → (agrees rec ws ≡ false → A (Refused Disagreement)) →
-      (agrees rec ws ≡ true → end_known rec.head ≡ false → A (Refused EndUnknown)) →
-      (agrees rec ws ≡ true → end_known rec.head ≡ true → A (verdict_of rec.head (whole_period rec.head) (kept rec ws))) → A (verdict_whole rec ws)
+  pub by_asked_whole : (A : Result Verdict Refusal → Type 0) → (agrees rec ws ≡ false → A (Err Disagreement)) →
+      (agrees rec ws ≡ true → end_known rec.head ≡ false → A (Err EndUnknown)) →
+      (agrees rec ws ≡ true → end_known rec.head ≡ true → A (Ok (verdict_of rec.head (whole_period rec.head) (kept rec ws)))) → A (verdict_whole rec ws)
   unfolding judged_whole
   by_asked_whole A disagree unknown asked = go (agrees rec ws) refl (end_known rec.head) refl
     where

@@ -8,6 +8,7 @@ use native.Mathlib.Nat.{mul-div_cancel_left, div-lt_iff_lt-mul}
 use native.Mathlib.Omega.{arith}
 use borrow.Author.Tests.{eq-eqb, ne_eqb, not-true}
 use lib.Dec.{eqb, leb}
+use Rattle.std.specs.Prelude.{Ok}
 use Rattle.units.specs.Exactly.{ExactlyWhen}
 use Rattle.units.specs.Limits.{clock_held}
 use Rattle.units.specs.declared.WideMillis.{WideMillis}
@@ -30,17 +31,17 @@ use Rattle.answers.proofs.Percents.{some_percent}
 
 -- ---- complete, by the counts
 
-counts_complete : (n c l : ℕ) → complete (judged n c l) ≡ true → (1 ≤ n) × (c ≡ n)
+counts_complete : (n c l : ℕ) → complete (Ok (judged n c l)) ≡ true → (1 ≤ n) × (c ≡ n)
 counts_complete n c l =
-    by_count n c l (λ v. complete v ≡ true → (1 ≤ n) × (c ≡ n)) (λ z h. absurd (false≢true h)) (λ some e h. (some, e)) (λ some o h. absurd (false≢true h))
+    by_count n c l (λ v. complete (Ok v) ≡ true → (1 ≤ n) × (c ≡ n)) (λ z h. absurd (false≢true h)) (λ some e h. (some, e)) (λ some o h. absurd (false≢true h))
 
 -- ---- THE THEOREM
 
 module _ (h : Head) (w : Stretch) (rs : List Reference) where
-  pub complete_exactly : ExactlyWhen (complete (verdict_of h w rs) ≡ true) (Whole h w rs)
+  pub complete_exactly : ExactlyWhen (complete (Ok (verdict_of h w rs)) ≡ true) (Whole h w rs)
   complete_exactly = record { only = only; if = if }
     where
-      only : complete (verdict_of h w rs) ≡ true → Whole h w rs
+      only : complete (Ok (verdict_of h w rs)) ≡ true → Whole h w rs
       only t =
           let counts = counts_complete (needed_count h w) (covered_count h w rs) (lowest_lacking h w rs) t in
           record {
@@ -48,9 +49,9 @@ module _ (h : Head) (w : Stretch) (rs : List Reference) where
             each = λ k n. count_each (tick_needed h w) (covered_by rs) (beyond h w) counts.1 k (needed_below h w k n) n;
           }
 
-      if : Whole h w rs → complete (verdict_of h w rs) ≡ true
+      if : Whole h w rs → complete (Ok (verdict_of h w rs)) ≡ true
       if q =
-          ap complete
+          ap (λ v. complete (Ok v))
           (to_complete (needed_count h w) (covered_count h w rs) (lowest_lacking h w rs)
           (count_some (tick_needed h w) (beyond h w) q.some.0 (needed_below h w q.some.0 q.some.1) q.some.1)
           (count_all (tick_needed h w) (covered_by rs) (beyond h w) q.each))
@@ -61,7 +62,7 @@ pub complete_at : (rec : Record) (ws : List ℕ) (c : WideMillis) →
     ((agrees rec ws ≡ true) × (clock_held c ≡ true) × (leb rec.clock.0 c.0 ≡ true) × Whole rec.head (window_at rec.head c.0) (kept rec ws))
 complete_at rec ws c = record { only = only; if = if }
   where
-    here : ExactlyWhen (complete (verdict_of rec.head (window_at rec.head c.0) (kept rec ws)) ≡ true) (Whole rec.head (window_at rec.head c.0) (kept rec ws))
+    here : ExactlyWhen (complete (Ok (verdict_of rec.head (window_at rec.head c.0) (kept rec ws))) ≡ true) (Whole rec.head (window_at rec.head c.0) (kept rec ws))
     here = complete_exactly rec.head (window_at rec.head c.0) (kept rec ws)
 
     Asked : Type 0
@@ -79,7 +80,7 @@ pub complete_whole : (rec : Record) (ws : List ℕ) →
     ExactlyWhen (complete (verdict_whole rec ws) ≡ true) ((agrees rec ws ≡ true) × (end_known rec.head ≡ true) × Whole rec.head (whole_period rec.head) (kept rec ws))
 complete_whole rec ws = record { only = only; if = if }
   where
-    here : ExactlyWhen (complete (verdict_of rec.head (whole_period rec.head) (kept rec ws)) ≡ true) (Whole rec.head (whole_period rec.head) (kept rec ws))
+    here : ExactlyWhen (complete (Ok (verdict_of rec.head (whole_period rec.head) (kept rec ws))) ≡ true) (Whole rec.head (whole_period rec.head) (kept rec ws))
     here = complete_exactly rec.head (whole_period rec.head) (kept rec ws)
 
     Asked : Type 0
@@ -103,14 +104,14 @@ short_percent c n l =
     let m : c * 100 / n < 100 = (div-lt_iff_lt-mul some).1 less in
     ne_eqb (c * 100 / n) 100 (λ e. let z : ⊥ = omega arith in z)
 
-judged_percent : (n c l : ℕ) → c ≤ n → hundred (verdict_percent (judged n c l)) ≡ complete (judged n c l)
+judged_percent : (n c l : ℕ) → c ≤ n → hundred (verdict_percent (Ok (judged n c l))) ≡ complete (Ok (judged n c l))
 judged_percent n c l m =
-    by_count n c l (λ v. hundred (verdict_percent v) ≡ complete v) (λ z. refl)
+    by_count n c l (λ v. hundred (verdict_percent (Ok v)) ≡ complete (Ok v)) (λ z. refl)
     (λ some e. ap hundred (sym (some_percent n n (apart n some) (n * 100 / n) (omega arith) refl)) ∙ eq-eqb (n * 100 / n) 100 (mul-div_cancel_left 100 some))
     (λ some o. ap hundred (sym (some_percent n c (apart n some) (c * 100 / n) m refl)) ∙ short_percent c n (omega arith))
 
 module _ (h : Head) (w : Stretch) (rs : List Reference) where
-  percent_of_lem : hundred (verdict_percent (verdict_of h w rs)) ≡ complete (verdict_of h w rs)
+  percent_of_lem : hundred (verdict_percent (Ok (verdict_of h w rs))) ≡ complete (Ok (verdict_of h w rs))
   percent_of_lem = judged_percent (needed_count h w) (covered_count h w rs) (lowest_lacking h w rs) (count_less (tick_needed h w) (covered_by rs) (beyond h w))
 
 pub percent_at : (rec : Record) (ws : List ℕ) (c : WideMillis) → hundred (verdict_percent (verdict_at rec ws c)) ≡ complete (verdict_at rec ws c)

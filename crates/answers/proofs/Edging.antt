@@ -17,17 +17,16 @@ use Rattle.window.specs.Limits.{Held}
 use Rattle.window.specs.Place.{place, moment, end_known, period_end, earlier, before_end}
 use Rattle.window.specs.Window.{high_edge}
 use Rattle.window.proofs.Unsigned.{end_at, place_is, moment_is, before_is}
-use Rattle.answers.specs.declared.CoveredEdge.{CoveredEdge}
-use Rattle.answers.specs.declared.CoveredEdge.TheVariants.{At, Never, Refused}
+use Rattle.std.specs.Prelude.{None, Option, Some}
+use Rattle.units.specs.declared.Millis.{Millis}
 use Rattle.answers.specs.Edge.{at_or_before, latest_upto, edge_of}
 
 -- ---- the latest that passes a test
 
 -- an answer is right: it passes and none after it does, or none passes at all
-abbrev pub Latest : (ℕ → Bool) → ℕ → CoveredEdge → Type 0
-Latest p n (At m) = (m.0 ≤ n) × (p m.0 ≡ true) × ((j : ℕ) → m.0 < j → j ≤ n → p j ≡ false)
-Latest p n Never = (j : ℕ) → j ≤ n → p j ≡ false
-Latest p n (Refused r) = ⊥
+abbrev pub Latest : (ℕ → Bool) → ℕ → Option Millis → Type 0
+Latest p n (Some m) = (m.0 ≤ n) × (p m.0 ≡ true) × ((j : ℕ) → m.0 < j → j ≤ n → p j ≡ false)
+Latest p n None = (j : ℕ) → j ≤ n → p j ≡ false
 
 -- up to one more: up to it, or there
 at_or_upto : (p : ℕ → Bool) (j n : ℕ) → p (suc n) ≡ false → (j ≤ n → p j ≡ false) → j ≤ suc n → p j ≡ false
@@ -39,21 +38,20 @@ at_or_upto p j n e under l = go (leb j n) refl
 
 module _ (p : ℕ → Bool) where
   -- one more that does not pass
-  one_more : (n : ℕ) (x : CoveredEdge) → p (suc n) ≡ false → Latest p n x → Latest p (suc n) x
-  one_more n (At m) e q = let l : m.0 ≤ n = q.0 in (omega arith, q.1, λ j i. at_or_upto p j n e (q.2 j i))
-  one_more n Never e none = λ j. at_or_upto p j n e (none j)
-  one_more n (Refused r) e none = none
+  one_more : (n : ℕ) (x : Option Millis) → p (suc n) ≡ false → Latest p n x → Latest p (suc n) x
+  one_more n (Some m) e q = let l : m.0 ≤ n = q.0 in (omega arith, q.1, λ j i. at_or_upto p j n e (q.2 j i))
+  one_more n None e none = λ j. at_or_upto p j n e (none j)
 
   pub latest_right : (n : ℕ) → Latest p n (latest_upto p n)
   unfolding latest_upto
   latest_right zero = go (p zero) refl
     where
-      go : (t : Bool) → p zero ≡ t → Latest p zero (cond t (At (record { 0 = zero })) Never)
+      go : (t : Bool) → p zero ≡ t → Latest p zero (cond t (Some (record { 0 = zero })) None)
       go true e = (omega arith, e, λ j l m. let z : ⊥ = omega arith in absurd z)
       go false e = λ j l. let here : j ≡ zero = omega arith in ap p here ∙ e
   latest_right (suc n) = go (p (suc n)) refl (latest_right n)
     where
-      go : (t : Bool) → p (suc n) ≡ t → Latest p n (latest_upto p n) → Latest p (suc n) (cond t (At (record { 0 = suc n })) (latest_upto p n))
+      go : (t : Bool) → p (suc n) ≡ t → Latest p n (latest_upto p n) → Latest p (suc n) (cond t (Some (record { 0 = suc n })) (latest_upto p n))
       go true e r = (omega arith, e, λ j l m. let z : ⊥ = omega arith in absurd z)
       go false e r = one_more n (latest_upto p n) e r
 
@@ -66,20 +64,17 @@ module _ (p : ℕ → Bool) where
       go false h = absurd (true≢false (sym e ∙ none b (leb-false b a h) l))
 
   -- THE LAW: there is one right answer
-  pub right_is : (n : ℕ) (x : CoveredEdge) → Latest p n x → x ≡ latest_upto p n
+  pub right_is : (n : ℕ) (x : Option Millis) → Latest p n x → x ≡ latest_upto p n
   right_is n x r = one x (latest_upto p n) r (latest_right n)
     where
-      one : (u v : CoveredEdge) → Latest p n u → Latest p n v → u ≡ v
-      one (At a) (At b) q w =
+      one : (u v : Option Millis) → Latest p n u → Latest p n v → u ≡ v
+      one (Some a) (Some b) q w =
           let l : b.0 ≤ a.0 = not_later n a.0 b.0 w.1 w.0 q.2 in
           let m : a.0 ≤ b.0 = not_later n b.0 a.0 q.1 q.0 w.2 in
-          ap (λ (k : ℕ). At (record { 0 = k })) (le_antisymm m l)
-      one (At a) Never q w = absurd (true≢false (sym q.1 ∙ w a.0 q.0))
-      one (At a) (Refused r) q w = absurd w
-      one Never (At b) q w = absurd (true≢false (sym w.1 ∙ q b.0 w.0))
-      one Never Never q w = refl
-      one Never (Refused r) q w = absurd w
-      one (Refused r) v q w = absurd q
+          ap (λ (k : ℕ). Some (record { 0 = k })) (le_antisymm m l)
+      one (Some a) None q w = absurd (true≢false (sym q.1 ∙ w a.0 q.0))
+      one None (Some b) q w = absurd (true≢false (sym w.1 ∙ q b.0 w.0))
+      one None None q w = refl
 
 -- ---- the upper edge against a tick
 
@@ -146,9 +141,9 @@ module _ (h : Head) where
 -- ---- what the code answers
 
 module _ (h : Head) (k : ℕ) (t : Bool) (b : t ≡ before_end h k) where
-  pub edge_end : not t ≡ true → At (record { 0 = largest_millis }) ≡ edge_of h k
+  pub edge_end : not t ≡ true → Some (record { 0 = largest_millis }) ≡ edge_of h k
   edge_end n =
-      right_is (at_or_before h k) largest_millis (At (record { 0 = largest_millis }))
+      right_is (at_or_before h k) largest_millis (Some (record { 0 = largest_millis }))
       (omega arith, by_end h k largest_millis (sym b ∙ not-true t n), λ j l m. let z : ⊥ = omega arith in absurd z)
 
   module _ (n : not t ≡ false) (s p o a : ℕ) (i j l m : ℕ) (x : Product s h.start.0 h.timescale.0 i) (y : Product p k 1000 j)
@@ -172,8 +167,8 @@ module _ (h : Head) (k : ℕ) (t : Bool) (b : t ≡ before_end h k) where
         lt-leb ((c + h.update.0) * h.timescale.0 + h.offset.0 * 1000) (k * 1000 + h.start.0 * h.timescale.0)
         (omega (arith, x.is, y.is, v.is, w.is, add-mul c h.update.0 h.timescale.0))
 
-    pub edge_never : s + p < z → Never ≡ edge_of h k
-    edge_never g = right_is (at_or_before h k) largest_millis Never (λ c u. fails c (omega arith))
+    pub edge_never : s + p < z → None ≡ edge_of h k
+    edge_never g = right_is (at_or_before h k) largest_millis None (λ c u. fails c (omega arith))
 
     module _ (g : z ≤ s + p) (q : Held h) where
       within : (c : ℕ) → c ≤ (s + p - z) / h.timescale.0 → at_or_before h k c ≡ true
@@ -186,12 +181,12 @@ module _ (h : Head) (k : ℕ) (t : Bool) (b : t ≡ before_end h k) where
           let d : s + p - z < c * h.timescale.0 = (div-lt_iff_lt-mul q.some).0 u in
           fails c (omega arith)
 
-      pub edge_limit : largest_millis < (s + p - z) / h.timescale.0 → At (record { 0 = largest_millis }) ≡ edge_of h k
+      pub edge_limit : largest_millis < (s + p - z) / h.timescale.0 → Some (record { 0 = largest_millis }) ≡ edge_of h k
       edge_limit u =
-          right_is (at_or_before h k) largest_millis (At (record { 0 = largest_millis }))
+          right_is (at_or_before h k) largest_millis (Some (record { 0 = largest_millis }))
           (omega arith, within largest_millis (omega arith), λ c v w. let f : ⊥ = omega arith in absurd f)
 
-      pub edge_at : (s + p - z) / h.timescale.0 ≤ largest_millis → At (record { 0 = (s + p - z) / h.timescale.0 }) ≡ edge_of h k
+      pub edge_at : (s + p - z) / h.timescale.0 ≤ largest_millis → Some (record { 0 = (s + p - z) / h.timescale.0 }) ≡ edge_of h k
       edge_at u =
-          right_is (at_or_before h k) largest_millis (At (record { 0 = (s + p - z) / h.timescale.0 }))
+          right_is (at_or_before h k) largest_millis (Some (record { 0 = (s + p - z) / h.timescale.0 }))
           (u, within ((s + p - z) / h.timescale.0) (omega arith), λ c v w. after c v)

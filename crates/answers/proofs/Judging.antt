@@ -1,23 +1,21 @@
 -- The verdict by ranges is the verdict by counts, and what each way of the code answers is the verdict by ranges.
-use mathlib.Core.Path.{◌≡◌, refl, sym, ap, ap₂, subst, fun_ext, ◌∙◌}
+use mathlib.Core.Path.{◌≡◌, refl, sym, ap, ap₂, fun_ext, ◌∙◌}
 use mathlib.Core.Bool.{Bool, true, false, ◌&&◌, not, and-eq-true_iff, false≢true}
 use mathlib.Core.List.{List}
 use Prim.Native.Nat.{ℕ, ◌-◌, ◌≤◌, ◌<◌, min, max}
 use native.Mathlib.Omega.{arith}
 use borrow.Author.Tests.{ltb-true, ltb-false}
 use lib.Dec.{ltb}
-use Rattle.units.specs.declared.WideTick.{WideTick}
 use Rattle.units.proofs.Choice.{same_test}
 use Rattle.window.specs.declared.Head.{Head}
 use Rattle.window.specs.declared.Reference.{Reference}
-use Rattle.window.specs.declared.Needed.{Needed}
-use Rattle.window.specs.declared.Needed.TheVariants as needed
+use Rattle.std.specs.Prelude.{None, Option, Some}
+use Rattle.window.specs.declared.Ticks.{Ticks}
 use Rattle.window.specs.References.{Each}
 use Rattle.window.specs.Window.{Stretch, tick_needed}
-use Rattle.window.specs.Ticks.{named, NamesSome, NeededTicks}
+use Rattle.window.specs.Ticks.{named, NeededTicks}
 use Rattle.window.proofs.Ranges.{in_range_lem, before_range, past_range, range_cases, range_first, range_last}
 use Rattle.runs.specs.Ends.{Within}
-use Rattle.answers.specs.declared.Verdict.{Verdict}
 use Rattle.answers.specs.declared.Verdict.TheVariants.{Nothing, Complete, Lacking}
 use Rattle.answers.specs.Cover.{covered_by}
 use Rattle.answers.specs.Counts.{count_below, least_below, beyond}
@@ -43,12 +41,12 @@ any_bound p q m n a b =
     (any_count (λ k. p k && q k) m n (λ k t. a k (first_of (p k) (q k) t)) (λ k t. b k (first_of (p k) (q k) t)))
     (any_least (λ k. p k && not (q k)) m n (λ k t. a k (first_of (p k) (not (q k)) t)) (λ k t. b k (first_of (p k) (not (q k)) t)))
 
-named_below : (x : Needed) → Below (named x) (past_named x)
-named_below needed.Nothing k t = absurd (false≢true t)
-named_below (needed.Ticks a b) k t = range_last a.0 b.0 k t
+named_below : (x : Option Ticks) → Below (named x) (past_named x)
+named_below None k t = absurd (false≢true t)
+named_below (Some x) k t = range_last x.first.0 x.end.0 k t
 
 -- THE LAW: by the range that the window needs and the range that the references cover
-pub verdict_ranges : (h : Head) (w : Stretch) (rs : List Reference) (x : Needed) (from to : ℕ) → NeededTicks h w x → Reach from to rs → Each Within rs →
+pub verdict_ranges : (h : Head) (w : Stretch) (rs : List Reference) (x : Option Ticks) (from to : ℕ) → NeededTicks h w x → Reach from to rs → Each Within rs →
     verdict_by (named x) (in_range from to) (past_named x) ≡ verdict_of h w rs
 unfolding verdict_by
 verdict_ranges h w rs x from to n r i =
@@ -133,15 +131,8 @@ module _ (a b f t : ℕ) (some : a < b) where
           (λ e i. ap (λ u. u && not (in_range f t j)) e)
           (λ e i. ap (λ u. u && not (in_range f t j)) e)))
 
--- ---- what a window needs, by its case
+-- ---- where a window needs nothing, so does the verdict
 
-pub judge_some : (x : Needed) (a b : WideTick) → x ≡ needed.Ticks a b → NamesSome x → a.0 < b.0
-judge_some x a b e s = subst NamesSome e s
-
-module _ (x : Needed) (q : ℕ → Bool) where
-  pub judge_nothing : x ≡ needed.Nothing → Nothing ≡ verdict_by (named x) q (past_named x)
-  unfolding verdict_by count_below
-  judge_nothing e = ap (λ y. verdict_by (named y) q (past_named y)) (sym e)
-
-  pub judge_ticks : (a b : WideTick) (v : Verdict) → x ≡ needed.Ticks a b → v ≡ verdict_by (in_range a.0 b.0) q b.0 → v ≡ verdict_by (named x) q (past_named x)
-  judge_ticks a b v e f = f ∙ ap (λ y. verdict_by (named y) q (past_named y)) (sym e)
+pub judge_nothing : (x : Option Ticks) (q : ℕ → Bool) → x ≡ None → Nothing ≡ verdict_by (named x) q (past_named x)
+unfolding verdict_by count_below
+judge_nothing x q e = ap (λ y. verdict_by (named y) q (past_named y)) (sym e)

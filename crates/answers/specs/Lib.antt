@@ -3,5 +3,4 @@ pub mod Counts
 pub mod Judgement
 pub mod Shares
 pub mod Edge
-pub mod Numbers
 pub mod Ranges

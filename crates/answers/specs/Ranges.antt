@@ -1,8 +1,7 @@
 -- What the inner steps of a verdict ask and leave: ticks by ranges. It states no rule of the paper.
-use Rattle.std.specs.Prelude.{ℕ, ◌≡◌, Bool, ◌&&◌, not, List, leb, ltb}
+use Rattle.std.specs.Prelude.{Option, Some, None, ℕ, ◌≡◌, Bool, ◌&&◌, not, List, leb, ltb}
 use Rattle.window.specs.declared.Reference.{Reference}
-use Rattle.window.specs.declared.Needed.{Needed}
-use Rattle.window.specs.declared.Needed.TheVariants as needed
+use Rattle.window.specs.declared.Ticks.{Ticks}
 use Rattle.window.specs.References.{EndToStart}
 use Rattle.runs.specs.Ends.{last_end}
 use Rattle.answers.specs.declared.Verdict.{Verdict}
@@ -18,9 +17,9 @@ unfoldable pub verdict_by : (ℕ → Bool) → (ℕ → Bool) → ℕ → Verdic
 verdict_by p q n = judged (count_below p n) (count_below (λ k. p k && q k) n) (least_below (λ k. p k && not (q k)) n)
 
 -- one past the last tick that an answer names
-abbrev pub past_named : Needed → ℕ
-past_named needed.Nothing = 0
-past_named (needed.Ticks a b) = b.0
+abbrev pub past_named : Option Ticks → ℕ
+past_named None = 0
+past_named (Some needed) = needed.end.0
 
 -- references that join from tick t, and end at tick e
 pub record Reach (t e : ℕ) (rs : List Reference) : Type 0 where

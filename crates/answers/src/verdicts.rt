@@ -8,8 +8,8 @@ ghost use Rattle.answers.specs.Ranges.{in_range, verdict_by, past_named, Reach};
 
 use crate::Verdict;
 use agreement::{Record, Refusal};
-use units::{Millis, MillisMade, WideMillis, WideTick};
-use window::Needed;
+use units::{Limited, Millis, WideMillis, WideTick};
+use window::{HeldHead, Ticks};
 
 // Inner, since record and table must agree: where the kept references begin, or the next tick if
 // none is kept.
@@ -58,45 +58,47 @@ fn compare(a: WideTick, b: WideTick, from: WideTick, to: WideTick) -> Verdict
 }
 
 // Inner, since an answer that names ticks must name one at least.
-fn judge(needed: Needed, from: WideTick, to: WideTick) -> Verdict
+fn judge(needed: Option<Ticks>, from: WideTick, to: WideTick) -> Verdict
     requires { NamesSome needed }
     ensures { result ≡ verdict_by (named needed) (in_range from.0 to.0) (past_named needed) }
 {
     match needed {
-        Needed::Nothing => Verdict::Nothing,
-        Needed::Ticks(a, b) => compare(a, b, from, to),
+        None => Verdict::Nothing,
+        Some(ticks) => compare(ticks.first, ticks.end, from, to),
     }
 }
 
 // The verdict at a clock, for any record, any words and any clock.
-pub fn verdict(rec: Record, table: &[u64], clock: WideMillis) -> Verdict
+pub fn verdict(rec: Record, table: &[u64], clock: WideMillis) -> Result<Verdict, Refusal>
     ensures { result ≡ verdict_at rec table.now clock }
 {
     if !rec.agrees(table) {
-        return Verdict::Refused(Refusal::Disagreement);
+        return Err(Refusal::Disagreement);
     }
-    let MillisMade::Made(at) = Millis::new(clock.0) else {
-        return Verdict::Refused(Refusal::ClockLimit);
+    let Some(at) = Millis::new(clock.0) else {
+        return Err(Refusal::ClockLimit);
     };
     if at.0 < rec.clock.0 {
-        return Verdict::Refused(Refusal::EarlierClock);
+        return Err(Refusal::EarlierClock);
     }
-    let needed = rec.head.needed_at(at);
+    let head = HeldHead { head: rec.head };
+    let needed = head.needed_at(at);
     let from = first_kept(rec, table);
-    judge(needed, from, WideTick(rec.next.0))
+    Ok(judge(needed, from, WideTick(rec.next.0)))
 }
 
 // The verdict of the whole period, for any record and any words.
-pub fn verdict_whole(rec: Record, table: &[u64]) -> Verdict
+pub fn verdict_whole(rec: Record, table: &[u64]) -> Result<Verdict, Refusal>
     ensures { result ≡ verdict_whole rec table.now }
 {
     if !rec.agrees(table) {
-        return Verdict::Refused(Refusal::Disagreement);
+        return Err(Refusal::Disagreement);
     }
     if rec.head.duration.0 == 0 {
-        return Verdict::Refused(Refusal::EndUnknown);
+        return Err(Refusal::EndUnknown);
     }
-    let needed = rec.head.needed_whole();
+    let head = HeldHead { head: rec.head };
+    let needed = head.needed_whole();
     let from = first_kept(rec, table);
-    judge(needed, from, WideTick(rec.next.0))
+    Ok(judge(needed, from, WideTick(rec.next.0)))
 }

@@ -7,8 +7,7 @@ use agreement::Record;
 use keeping::Changed;
 use std::io;
 use std::io::Read;
-use units::{Stamp, WideMillis, WideTick};
-use window::HeadFields;
+use units::{Stamp, WideMillis};
 
 mod look;
 mod show;
@@ -16,175 +15,112 @@ mod steps;
 
 use look::look;
 use show::show;
-use steps::{PLACES, line_end, numbers, past_feed};
+use steps::{Call, Change};
 
-fn low(word: u64) -> u32 {
-    (word % 4294967296) as u32
-}
-
-fn head(s: [u64; PLACES]) -> HeadFields {
-    HeadFields {
-        timescale: s[1],
-        offset: s[2],
-        start: s[3],
-        duration: s[4],
-        depth: s[5],
-        first: s[6],
-        update: s[7],
-    }
-}
-
-fn changes(name: u8) -> bool {
-    match name {
-        b'o' | b'a' | b's' | b't' | b'p' => true,
-        _ => false,
-    }
-}
-
-// With a capital, the record is lent to the call.
-fn lends(name: u8) -> bool {
-    match name {
-        b'A' | b'S' | b'T' | b'P' => true,
-        _ => false,
-    }
-}
-
-fn change(name: u8, rec: Record, table: &mut [u64], s: [u64; PLACES]) -> Changed {
-    if name == b'o' {
-        return timeline::open(head(s), WideTick(s[8]), table);
-    }
-    let at = s[1];
-    let duration = low(s[2]);
-    let count = low(s[3]);
-    match name {
-        b'a' => timeline::append(rec, table, WideTick(at), duration, count),
-        b's' => timeline::append_stamp(rec, table, Stamp(low(at)), duration, count),
-        b'p' => timeline::append_trim(
-            rec,
-            table,
-            Stamp(low(at)),
-            duration,
-            count,
-            WideMillis(s[4]),
-        ),
-        _ => timeline::trim(rec, table, WideMillis(at)),
-    }
-}
-
-fn change_lent(name: u8, rec: Record, table: &mut [u64], s: [u64; PLACES]) -> Changed {
-    let at = s[1];
-    let duration = low(s[2]);
-    let count = low(s[3]);
-    match name {
-        b'A' => held::append(rec, table, WideTick(at), duration, count),
-        b'S' => held::append_stamp(rec, table, Stamp(low(at)), duration, count),
-        b'P' => held::append_trim(
-            rec,
-            table,
-            Stamp(low(at)),
-            duration,
-            count,
-            WideMillis(s[4]),
-        ),
-        _ => held::trim(rec, table, WideMillis(at)),
-    }
-}
-
-// Two calls, and so two outcomes, both shown with what the second left.
-fn follow(
-    out: &impl Print,
-    before: Record,
-    table: &mut [u64],
-    s: [u64; PLACES],
-) -> io::Result<Record> {
-    let both = held::follow(
-        before,
-        table,
-        Stamp(low(s[1])),
-        low(s[2]),
-        low(s[3]),
-        WideMillis(s[4]),
-    );
-    let appended = both.appended;
-    let trimmed = both.trimmed;
-    let rec = both.rec;
-    show(
-        out,
-        Changed {
-            outcome: appended,
-            rec,
-        },
-        table,
-    )?;
-    show(
-        out,
-        Changed {
-            outcome: trimmed,
-            rec,
-        },
-        table,
-    )?;
-    Ok(rec)
-}
-
-fn call(
-    out: &impl Print,
-    name: u8,
+// A record and the table that it speaks of.
+#[derive(Drop)]
+struct Kept<'a> {
     rec: Record,
-    table: &mut [u64],
-    s: [u64; PLACES],
-) -> io::Result<Record> {
-    if name == b'f' {
-        return follow(out, rec, table, s);
-    }
-    if lends(name) {
-        let changed = change_lent(name, rec, table, s);
-        show(out, changed, table)?;
-        return Ok(changed.rec);
-    }
-    if changes(name) {
-        let changed = change(name, rec, table, s);
-        show(out, changed, table)?;
-        return Ok(changed.rec);
-    }
-    look(out, name, rec, table, s[1], s[2])?;
-    Ok(rec)
+    table: &'a mut [u64],
 }
 
-// A comment begins with '#'.
-fn step(out: &impl Print, rec: Record, table: &mut [u64], line: &[u8]) -> io::Result<Record> {
-    if line.len() == 0 {
-        return Ok(rec);
+impl<'a> Kept<'a> {
+    fn change(&mut self, change: Change) -> Changed {
+        let rec = self.rec;
+        let table = &mut *self.table;
+        match change {
+            Change::Append(at, duration, count) => timeline::append(
+                rec, table, at, duration, count,
+            ),
+            Change::Stamp(at, duration, count) => {
+                timeline::append_stamp(rec, table, at, duration, count)
+            }
+            Change::Pair(at, duration, count, clock) => {
+                timeline::append_trim(rec, table, at, duration, count, clock)
+            }
+            Change::Trim(clock) => timeline::trim(rec, table, clock),
+        }
     }
-    let name = line[0];
-    if name == b'#' {
-        return Ok(rec);
+
+    fn change_lent(&mut self, change: Change) -> Changed {
+        let rec = self.rec;
+        let table = &mut *self.table;
+        match change {
+            Change::Append(at, duration, count) => held::append(rec, table, at, duration, count),
+            Change::Stamp(at, duration, count) => {
+                held::append_stamp(rec, table, at, duration, count)
+            }
+            Change::Pair(at, duration, count, clock) => {
+                held::append_trim(rec, table, at, duration, count, clock)
+            }
+            Change::Trim(clock) => held::trim(rec, table, clock),
+        }
     }
-    out.write_all(line)?;
-    print!(out; ":")?;
-    call(out, name, rec, table, numbers(line))
+
+    // What a call came to, kept and shown.
+    fn take(&mut self, out: &impl Print, changed: Changed) -> io::Result<()> {
+        self.rec = changed.rec;
+        show(out, changed, self.table)
+    }
+
+    // Two calls, and so two outcomes, both shown with what the second left.
+    fn follow(
+        &mut self,
+        out: &impl Print,
+        at: Stamp,
+        duration: u32,
+        count: u32,
+        clock: WideMillis,
+    ) -> io::Result<()> {
+        let both = held::follow(self.rec, self.table, at, duration, count, clock);
+        let rec = both.rec;
+        let outcome = both.appended;
+        self.take(out, Changed { outcome, rec })?;
+        let outcome = both.trimmed;
+        self.take(out, Changed { outcome, rec })
+    }
+
+    fn step(&mut self, out: &impl Print, line: &[u8]) -> io::Result<()> {
+        let Some(call) = Call::of(line) else {
+            return Ok(());
+        };
+        out.write_all(line)?;
+        print!(out; ":")?;
+        match call {
+            Call::Open(fields, first) => {
+                let changed = timeline::open(fields, first, self.table);
+                self.take(out, changed)
+            }
+            Call::Change(change) => {
+                let changed = self.change(change);
+                self.take(out, changed)
+            }
+            Call::Lent(change) => {
+                let changed = self.change_lent(change);
+                self.take(out, changed)
+            }
+            Call::Follow(at, duration, count, clock) => {
+                self.follow(out, at, duration, count, clock)
+            }
+            Call::Look(call) => look(out, call, self.rec, self.table),
+        }
+    }
 }
 
 fn run(out: &impl Print, table: &mut [u64], steps: &[u8]) -> io::Result<()> {
-    let mut rec = timeline::zero_record();
-    let mut i = 0;
-    while i < steps.len() {
-        let end = line_end(steps, i);
-        rec = step(out, rec, table, &steps[i..end])?;
-        i = past_feed(steps, end);
+    let rec = timeline::zero_record();
+    let mut kept = Kept { rec, table };
+    for line in steps.split(|byte| *byte == b'\n') {
+        kept.step(out, line)?;
     }
     Ok(())
 }
 
 fn run_all(out: &impl Print, steps: &[u8]) -> io::Result<()> {
-    let mut seven = [9u64; 7];
-    run(out, &mut seven, steps)?;
-    let mut three = [9u64; 3];
-    run(out, &mut three, steps)?;
-    let mut two = [9u64; 2];
-    run(out, &mut two, steps)?;
-    let mut none = [9u64; 0];
-    run(out, &mut none, steps)
+    run(out, &mut [9; 7], steps)?;
+    run(out, &mut [9; 3], steps)?;
+    run(out, &mut [9; 2], steps)?;
+    run(out, &mut [9; 0], steps)
 }
 
 // The steps are 65,536 bytes at most; what stands behind them is not read.

@@ -6,7 +6,7 @@ use Prim.Native.Nat.{ℕ}
 use lib.ListN.{length}
 use Rattle.agreement.specs.declared.refusal.Refusal.TheVariants.{BadLine}
 use Rattle.agreement.specs.Agreement.{agrees}
-use Rattle.keeping.specs.declared.Outcome.TheVariants as outcome
+use Rattle.std.specs.Prelude.{Ok}
 use Rattle.keeping.specs.Keeping.{words_by}
 use Rattle.keeping.proofs.Outcomes.{refused_not}
 use Rattle.file.specs.declared.Stage.{Stage}
@@ -16,7 +16,7 @@ use Rattle.file.specs.Judging.{read_lines, stop_outcome, read_outcome, answered_
 use Rattle.file.specs.Sound.{Sound}
 use Rattle.file.proofs.Sounding.{read_sound}
 
-ended : (s : Stage) (n : ℕ) → stop_outcome s n ≡ outcome.Accepted → s ≡ Ended
+ended : (s : Stage) (n : ℕ) → stop_outcome s n ≡ Ok tt → s ≡ Ended
 ended Nothing n e = absurd (refused_not BadLine e)
 ended Headed n e = absurd (refused_not BadLine e)
 ended Open n e = absurd (refused_not BadLine e)
@@ -24,7 +24,7 @@ ended Filled n e = absurd (refused_not BadLine e)
 ended Ended n e = refl
 ended (Refused why) n e = absurd (refused_not why e)
 
-module _ (bytes came : List ℕ) (o : read_outcome bytes came ≡ outcome.Accepted) where
+module _ (bytes came : List ℕ) (o : read_outcome bytes came ≡ Ok tt) where
   at_end : (read_lines bytes came).reading.stage ≡ Ended
   unfolding read_outcome
   at_end = ended (read_lines bytes came).reading.stage (length (rest_of bytes)) o

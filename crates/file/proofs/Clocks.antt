@@ -12,13 +12,13 @@ use Rattle.window.specs.declared.Head.{Head}
 use Rattle.window.specs.Limits.{head_held}
 use Rattle.agreement.specs.declared.Record.{Record}
 use Rattle.agreement.specs.declared.refusal.Refusal.TheVariants.{OverLimit, BadOrder}
-use Rattle.keeping.specs.declared.Outcome.{Outcome}
-use Rattle.keeping.specs.declared.Outcome.TheVariants as outcome
+use Rattle.std.specs.Prelude.{Err, None, Ok, Option, Some}
+use Rattle.keeping.specs.Keeping.{Outcome}
 use Rattle.keeping.specs.Append.{appended}
 use Rattle.timeline.specs.Opening.{fresh_record, open_outcome}
 use Rattle.timeline.specs.Appending.{append_outcome}
 use Rattle.frames.specs.declared.Frame.{Frame}
-use Rattle.frames.specs.declared.Frame.TheVariants.{Head as HeadFrame, S, End, Clock, Bad}
+use Rattle.frames.specs.declared.Frame.TheVariants.{Head as HeadFrame, S, End, Clock}
 use Rattle.frames.specs.declared.SFields.{SFields}
 use Rattle.frames.specs.Frames.{frame_of}
 use Rattle.file.specs.declared.Stage.{Stage}
@@ -33,8 +33,8 @@ AtZero x = x.reading.rec.clock.0 ≡ 0
 
 settled_zero : (o : Outcome) (s : Stage) (r : Reading) (rec : Record) → r.rec.clock.0 ≡ 0 → rec.clock.0 ≡ 0 → (settled_reading o s r rec).rec.clock.0 ≡ 0
 unfolding settled_reading
-settled_zero outcome.Accepted s r rec z y = y
-settled_zero (outcome.Refused why) s r rec z y = z
+settled_zero (Ok _) s r rec z y = y
+settled_zero (Err why) s r rec z y = z
 
 module _ (r : Reading) (ws : List ℕ) (z : r.rec.clock.0 ≡ 0) where
   s_zero : (st : Standing) (s : SFields) → AtZero (take_s r ws st s)
@@ -71,32 +71,32 @@ module _ (r : Reading) (ws : List ℕ) (z : r.rec.clock.0 ≡ 0) where
   first_zero s = go (open_outcome r.rec.head (tick_of (first_tick s.t)))
     where
       go : (o : Outcome) → AtZero (opened_by o r ws s)
-      go outcome.Accepted =
+      go (Ok _) =
           s_zero (record { stage = Headed; lines = r.lines; rec = fresh_record r.rec.head (tick_of (first_tick s.t)) }) (replicate (length ws) 0) refl Joins s
-      go (outcome.Refused why) = z
+      go (Err why) = z
 
-  frame_zero : (st : Stage) (f : Frame) → AtZero (on_frame st r ws f)
+  frame_zero : (st : Stage) (f : Option Frame) → AtZero (on_frame st r ws f)
   unfolding on_nothing on_headed on_open on_filled
-  frame_zero Nothing (HeadFrame f) = head_zero r ws z (head_in f)
-  frame_zero Nothing (S s) = z
-  frame_zero Nothing (End m) = z
-  frame_zero Nothing (Clock c) = z
-  frame_zero Nothing Bad = z
-  frame_zero Headed (HeadFrame h) = z
-  frame_zero Headed (S s) = first_zero s
-  frame_zero Headed (End m) = z
-  frame_zero Headed (Clock c) = z
-  frame_zero Headed Bad = z
-  frame_zero Open (HeadFrame h) = z
-  frame_zero Open (S s) = s_zero r ws z (later_standing s.t r.rec.next) s
-  frame_zero Open (End m) = end_zero r ws z m
-  frame_zero Open (Clock c) = z
-  frame_zero Open Bad = z
-  frame_zero Filled (HeadFrame h) = z
-  frame_zero Filled (S s) = z
-  frame_zero Filled (End m) = end_zero r ws z m
-  frame_zero Filled (Clock c) = z
-  frame_zero Filled Bad = z
+  frame_zero Nothing (Some (HeadFrame f)) = head_zero r ws z (head_in f)
+  frame_zero Nothing (Some (S s)) = z
+  frame_zero Nothing (Some (End m)) = z
+  frame_zero Nothing (Some (Clock c)) = z
+  frame_zero Nothing None = z
+  frame_zero Headed (Some (HeadFrame h)) = z
+  frame_zero Headed (Some (S s)) = first_zero s
+  frame_zero Headed (Some (End m)) = z
+  frame_zero Headed (Some (Clock c)) = z
+  frame_zero Headed None = z
+  frame_zero Open (Some (HeadFrame h)) = z
+  frame_zero Open (Some (S s)) = s_zero r ws z (later_standing s.t r.rec.next) s
+  frame_zero Open (Some (End m)) = end_zero r ws z m
+  frame_zero Open (Some (Clock c)) = z
+  frame_zero Open None = z
+  frame_zero Filled (Some (HeadFrame h)) = z
+  frame_zero Filled (Some (S s)) = z
+  frame_zero Filled (Some (End m)) = end_zero r ws z m
+  frame_zero Filled (Some (Clock c)) = z
+  frame_zero Filled None = z
   frame_zero Ended f = z
   frame_zero (Refused why) f = z
 
@@ -110,5 +110,5 @@ unfolding read_answer read_lines
 read_clock bytes came = go (read_outcome bytes came)
   where
     go : (o : Outcome) → (answered_by o (read_lines bytes came).reading).rec.clock.0 ≡ 0
-    go outcome.Accepted = lines_zero (begun came) (lines_of bytes) refl
-    go (outcome.Refused why) = refl
+    go (Ok _) = lines_zero (begun came) (lines_of bytes) refl
+    go (Err why) = refl

@@ -1,50 +1,19 @@
 -- Bytes cut at the first line feed: where the feed stands, and how pieces are cut that come one behind the other.
-use mathlib.Core.Path.{◌≡◌, refl, ap, ◌∙◌}
+use mathlib.Core.Path.{◌≡◌, refl, sym, ap, ◌∙◌}
 use mathlib.Core.Bool.{Bool, true, false, cond, true≢false, false≢true}
 use mathlib.Core.List.{List, [], ◌∷◌, ◌++◌}
 use Prim.Native.Nat.{ℕ, suc, ◌+◌, ◌≤◌, ◌<◌}
 use native.Mathlib.Omega.{arith}
-use borrow.Author.Tests.{eq-eqb, ne_eqb}
-use lib.Dec.{eqb}
-use lib.ListN.{length, get_or, take, drop, drop_of_length-le}
-use Rattle.frames.proofs.Places.{from_here}
-use Rattle.file.specs.Lines.{line_feed, has_feed, first_line, behind_first}
+use borrow.Author.Tests.{ltb-true, ltb-false}
+use lib.Dec.{eqb, ltb}
+use lib.ListN.{length, take, drop}
+use Rattle.std.specs.Prelude.{Option, Some, None}
+use Rattle.std.specs.Option.{unwrap_or}
+use Rattle.std.specs.List.{position_or_len}
+use Rattle.std.proofs.lemmas.List.Recursion.{is_position_or_len}
+use Rattle.file.specs.Lines.{line_feed, has_feed, first_line, behind_first, feed_at}
 
 -- ---- the feed sought from the front: none stands before i
-
-pub record Sought (bytes : List ℕ) (i : ℕ) : Type 0 where
-  pub within : i ≤ length bytes
-  pub left : length (first_line bytes) ≡ i + length (first_line (drop i bytes))
-
-module _ (bytes : List ℕ) where
-  pub sought_none : Sought bytes 0
-  sought_none = record { within = omega arith; left = omega arith }
-
-  module _ (i : ℕ) (w : Sought bytes i) where
-    pub sought_found : i < length bytes → get_or bytes i 0 ≡ line_feed → i ≡ length (first_line bytes)
-    unfolding first_line
-    sought_found l e =
-        let none : length (first_line (drop i bytes)) ≡ 0 =
-        ap (λ bs. length (first_line bs)) (from_here bytes i l) ∙
-        ap (λ t. length (cond t [] (get_or bytes i 0 ∷ first_line (drop (i + 1) bytes)))) (eq-eqb (get_or bytes i 0) line_feed e)
-        in
-        omega (arith, w.left)
-
-    pub sought_more : i < length bytes → (get_or bytes i 0 ≡ line_feed → ⊥) → Sought bytes (i + 1)
-    unfolding first_line
-    sought_more l n =
-        let more : length (first_line (drop i bytes)) ≡ 1 + length (first_line (drop (i + 1) bytes)) =
-        ap (λ bs. length (first_line bs)) (from_here bytes i l) ∙
-        ap (λ t. length (cond t [] (get_or bytes i 0 ∷ first_line (drop (i + 1) bytes)))) (ne_eqb (get_or bytes i 0) line_feed n) ∙
-        omega arith
-        in
-        record { within = omega arith; left = omega (arith, w.left) }
-
-    pub sought_all : length bytes ≤ i → i ≡ length (first_line bytes)
-    unfolding first_line
-    sought_all l =
-        let none : length (first_line (drop i bytes)) ≡ 0 = ap (λ bs. length (first_line bs)) (drop_of_length-le bytes l) in
-        omega (arith, w.left)
 
 -- ---- the first line and what stands behind it, by the place of the feed
 
@@ -75,6 +44,16 @@ unfed (b ∷ bs) e = go (eqb b line_feed) e (unfed bs)
     go true k h = let z : ⊥ = omega arith in absurd z
     go false k h = h (omega arith)
 
+-- bytes without a feed are a first line
+pub whole : (bytes : List ℕ) → has_feed bytes ≡ false → first_line bytes ≡ bytes
+unfolding first_line has_feed
+whole [] h = refl
+whole (b ∷ bs) h = go (eqb b line_feed) h (whole bs)
+  where
+    go : (t : Bool) → cond t true (has_feed bs) ≡ false → (has_feed bs ≡ false → first_line bs ≡ bs) → cond t [] (b ∷ first_line bs) ≡ b ∷ bs
+    go true k h = absurd (true≢false k)
+    go false k h = ap (λ l. b ∷ l) (h k)
+
 pub fed : (bytes : List ℕ) → (length (first_line bytes) ≡ length bytes → ⊥) → has_feed bytes ≡ true
 unfolding first_line has_feed
 fed [] n = absurd (n refl)
@@ -83,6 +62,15 @@ fed (b ∷ bs) n = go (eqb b line_feed) n (fed bs)
     go : (t : Bool) → (length (cond t [] (b ∷ first_line bs)) ≡ length (b ∷ bs) → ⊥) → ((length (first_line bs) ≡ length bs → ⊥) → has_feed bs ≡ true) → cond t true (has_feed bs) ≡ true
     go true k h = refl
     go false k h = h (λ e. k (omega arith))
+
+pub behind_less : (bytes : List ℕ) → has_feed bytes ≡ true → length (first_line bytes) < length bytes
+unfolding first_line has_feed
+behind_less [] h = absurd (false≢true h)
+behind_less (b ∷ bs) h = go (eqb b line_feed) h (behind_less bs)
+  where
+    go : (t : Bool) → cond t true (has_feed bs) ≡ true → (has_feed bs ≡ true → length (first_line bs) < length bs) → length (cond t [] (b ∷ first_line bs)) < length (b ∷ bs)
+    go true k l = omega arith
+    go false k l = omega (arith, l k)
 
 pub behind_is : (bytes : List ℕ) → has_feed bytes ≡ true → drop (length (first_line bytes) + 1) bytes ≡ behind_first bytes
 unfolding first_line has_feed behind_first
@@ -95,6 +83,63 @@ behind_is (b ∷ bs) h = go (eqb b line_feed) h (behind_is bs)
     go false k e =
         let next : suc (length (first_line bs)) + 1 ≡ suc (length (first_line bs) + 1) = omega arith in
         ap (λ (n : ℕ). drop n (b ∷ bs)) next ∙ e k
+
+-- ---- the place of the first feed
+
+abbrev pub is_feed : ℕ → Bool
+is_feed b = eqb b line_feed
+
+place_is : (bytes : List ℕ) → length (first_line bytes) ≡ position_or_len is_feed bytes
+unfolding first_line
+place_is bytes = is_position_or_len (λ bs. length (first_line bs)) is_feed refl step bytes
+  where
+    step : (b : ℕ) (bs : List ℕ) → length (first_line (b ∷ bs)) ≡ cond (is_feed b) 0 (1 + length (first_line bs))
+    step b bs = go (is_feed b)
+      where
+        go : (t : Bool) → length (cond t [] (b ∷ first_line bs)) ≡ cond t 0 (1 + length (first_line bs))
+        go true = refl
+        go false = omega arith
+
+-- as the code finds it
+pub feed_found : (bytes : List ℕ) → cond (ltb (position_or_len is_feed bytes) (length bytes)) (Some (position_or_len is_feed bytes)) None ≡ feed_at bytes
+unfolding feed_at
+feed_found bytes = go (ltb (position_or_len is_feed bytes) (length bytes)) refl
+  where
+    place : length (first_line bytes) ≡ position_or_len is_feed bytes
+    place = place_is bytes
+
+    go : (t : Bool) → ltb (position_or_len is_feed bytes) (length bytes) ≡ t →
+        cond t (Some (position_or_len is_feed bytes)) None ≡ cond (has_feed bytes) (Some (length (first_line bytes))) None
+    go true e =
+        let less = ltb-true (position_or_len is_feed bytes) (length bytes) e in
+        let there : has_feed bytes ≡ true = fed bytes (λ k. let z : ⊥ = omega (arith, place) in z) in
+        ap Some (sym place) ∙ ap (λ t. cond t (Some (length (first_line bytes))) None) (sym there)
+    go false e =
+        let more = ltb-false (position_or_len is_feed bytes) (length bytes) e in
+        let none : has_feed bytes ≡ false = unfed bytes (omega (arith, place, line_within bytes)) in
+        ap (λ t. cond t (Some (length (first_line bytes))) None) (sym none)
+
+module _ (bytes : List ℕ) (at : Option ℕ) (e : at ≡ feed_at bytes) where
+  pub feed_none : at ≡ None → has_feed bytes ≡ false
+  unfolding feed_at
+  feed_none k = go (has_feed bytes) (sym e ∙ k)
+    where
+      go : (t : Bool) → cond t (Some (length (first_line bytes))) None ≡ None → t ≡ false
+      go true j = absurd (cc)
+      go false j = refl
+
+  pub feed_some : (n : ℕ) → at ≡ Some n → (has_feed bytes ≡ true) × (n ≡ length (first_line bytes))
+  unfolding feed_at
+  feed_some n k = go (has_feed bytes) (sym e ∙ k)
+    where
+      go : (t : Bool) → cond t (Some (length (first_line bytes))) None ≡ Some n → (t ≡ true) × (n ≡ length (first_line bytes))
+      go true j = (refl, cc)
+      go false j = absurd (cc)
+
+-- where a line ends
+pub end_is : (bytes : List ℕ) (at : Option ℕ) → at ≡ feed_at bytes → unwrap_or at (length bytes) ≡ length (first_line bytes)
+end_is bytes None e = sym (ap length (whole bytes (feed_none bytes None e refl)))
+end_is bytes (Some n) e = (feed_some bytes (Some n) e n refl).1
 
 -- ---- pieces one behind the other
 

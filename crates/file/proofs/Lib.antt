@@ -8,7 +8,6 @@ pub mod SoFar
 pub mod Cutting
 pub mod Sounding
 pub mod Accepted
-pub mod Belonging
 pub mod Turning
 pub mod Stopping
 pub mod Pieces

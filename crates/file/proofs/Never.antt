@@ -19,16 +19,15 @@ use Rattle.agreement.specs.declared.Record.{Record}
 use Rattle.agreement.specs.declared.refusal.Refusal.{Refusal}
 use Rattle.agreement.specs.declared.refusal.Refusal.TheVariants as refusal
 use Rattle.agreement.specs.Agreement.{every, counts_held, agrees}
-use Rattle.agreement.specs.Numbers.{refusal_number}
-use Rattle.keeping.specs.declared.Outcome.{Outcome}
-use Rattle.keeping.specs.declared.Outcome.TheVariants as outcome
-use Rattle.keeping.specs.Keeping.{outcome_number}
+use Rattle.agreement.specs.Numbers.{refusal_number, answer_number}
+use Rattle.std.specs.Prelude.{Err, None, Ok, Option, Some}
+use Rattle.keeping.specs.Keeping.{Outcome}
 use Rattle.keeping.specs.Append.{given, unspent_of, room_outcome, fit_outcome, appended}
 use Rattle.timeline.specs.Opening.{fresh_record, open_outcome}
 use Rattle.timeline.specs.Appending.{unjoined◌else◌, append_outcome}
 use Rattle.timeline.proofs.Kept.{open_agrees}
 use Rattle.frames.specs.declared.Frame.{Frame}
-use Rattle.frames.specs.declared.Frame.TheVariants.{Head as HeadFrame, S, End, Clock, Bad}
+use Rattle.frames.specs.declared.Frame.TheVariants.{Head as HeadFrame, S, End, Clock}
 use Rattle.frames.specs.declared.SFields.{SFields}
 use Rattle.frames.specs.Frames.{frame_of}
 use Rattle.file.specs.declared.Stage.{Stage}
@@ -42,8 +41,8 @@ use Rattle.file.proofs.Sounding.{SoundFile, line_sound}
 
 -- an outcome other than a refusal with 2, and a stage
 data Other : Outcome → Type 0 where
-  accepted : Other outcome.Accepted
-  other : (why : Refusal) → eqb (refusal_number why) 2 ≡ false → Other (outcome.Refused why)
+  accepted : Other (Ok tt)
+  other : (why : Refusal) → eqb (refusal_number why) 2 ≡ false → Other (Err why)
 
 abbrev OtherStage : Stage → Type 0
 OtherStage Nothing = Unit {0}
@@ -51,7 +50,7 @@ OtherStage Headed = Unit {0}
 OtherStage Open = Unit {0}
 OtherStage Filled = Unit {0}
 OtherStage Ended = Unit {0}
-OtherStage (Refused why) = Other (outcome.Refused why)
+OtherStage (Refused why) = Other (Err why)
 
 -- ---- outcomes
 
@@ -80,7 +79,7 @@ module _ (rec : Record) (ws : List ℕ) (d n : ℕ) where
     appends : agrees rec ws ≡ true → Other (append_outcome rec ws st d n)
     unfolding append_outcome
     appends a =
-        subst⁻¹ (λ t. Other (cond t (cond (eqb d 0 || eqb n 0) (outcome.Refused refusal.NothingGiven) (unjoined st else fit_outcome rec ws d n)) (outcome.Refused refusal.Disagreement))) a
+        subst⁻¹ (λ t. Other (cond t (cond (eqb d 0 || eqb n 0) (Err refusal.NothingGiven) (unjoined st else fit_outcome rec ws d n)) (Err refusal.Disagreement))) a
         (either (eqb d 0 || eqb n 0) (other refusal.NothingGiven refl) (joins st fits))
 
     reaches : Other (reach_outcome rec ws st d n)
@@ -95,8 +94,8 @@ module _ (rec : Record) (ws : List ℕ) (d n : ℕ) where
 module _ (r : Reading) (ws : List ℕ) where
   settles : (o : Outcome) (s : Stage) (rec : Record) → OtherStage s → Other o → OtherStage (settled_reading o s r rec).stage
   unfolding settled_reading
-  settles outcome.Accepted s rec k p = k
-  settles (outcome.Refused why) s rec k p = p
+  settles (Ok _) s rec k p = k
+  settles (Err why) s rec k p = p
 
   takes_s : (st : Standing) (s : SFields) → agrees r.rec ws ≡ true → OtherStage (take_s r ws st s).reading.stage
   unfolding take_s reaches_by
@@ -139,33 +138,33 @@ module _ (r : Reading) (ws : List ℕ) where
       opens = either (head_held r.rec.head && tick_held (tick_of (first_tick s.t))) accepted (other refusal.OverLimit refl)
 
       go : (o : Outcome) → open_outcome r.rec.head (tick_of (first_tick s.t)) ≡ o → Other o → OtherStage (opened_by o r ws s).reading.stage
-      go outcome.Accepted e p =
+      go (Ok _) e p =
           takes_s (record { stage = Headed; lines = r.lines; rec = fresh_record r.rec.head (tick_of (first_tick s.t)) }) (replicate (length ws) 0) Joins s
           (open_agrees r.rec.head (tick_of (first_tick s.t)) (length ws) e)
-      go (outcome.Refused why) e p = p
+      go (Err why) e p = p
 
-  frame_other : (st : Stage) (f : Frame) → Sound st r ws → r.stage ≡ st → OtherStage st → OtherStage (on_frame st r ws f).reading.stage
+  frame_other : (st : Stage) (f : Option Frame) → Sound st r ws → r.stage ≡ st → OtherStage st → OtherStage (on_frame st r ws f).reading.stage
   unfolding Sound on_nothing on_headed on_open on_filled
-  frame_other Nothing (HeadFrame f) k e p = takes_head r ws (head_in f)
-  frame_other Nothing (S s) k e p = other refusal.BadOrder refl
-  frame_other Nothing (End m) k e p = other refusal.BadOrder refl
-  frame_other Nothing (Clock c) k e p = other refusal.BadLine refl
-  frame_other Nothing Bad k e p = other refusal.BadLine refl
-  frame_other Headed (HeadFrame h) k e p = other refusal.BadOrder refl
-  frame_other Headed (S s) k e p = takes_first s
-  frame_other Headed (End m) k e p = other refusal.BadOrder refl
-  frame_other Headed (Clock c) k e p = other refusal.BadLine refl
-  frame_other Headed Bad k e p = other refusal.BadLine refl
-  frame_other Open (HeadFrame h) k e p = other refusal.BadOrder refl
-  frame_other Open (S s) k e p = takes_s r ws (later_standing s.t r.rec.next) s k.agreed
-  frame_other Open (End m) k e p = takes_end r ws m
-  frame_other Open (Clock c) k e p = other refusal.BadLine refl
-  frame_other Open Bad k e p = other refusal.BadLine refl
-  frame_other Filled (HeadFrame h) k e p = other refusal.BadOrder refl
-  frame_other Filled (S s) k e p = other refusal.BadOrder refl
-  frame_other Filled (End m) k e p = takes_end r ws m
-  frame_other Filled (Clock c) k e p = other refusal.BadLine refl
-  frame_other Filled Bad k e p = other refusal.BadLine refl
+  frame_other Nothing (Some (HeadFrame f)) k e p = takes_head r ws (head_in f)
+  frame_other Nothing (Some (S s)) k e p = other refusal.BadOrder refl
+  frame_other Nothing (Some (End m)) k e p = other refusal.BadOrder refl
+  frame_other Nothing (Some (Clock c)) k e p = other refusal.BadLine refl
+  frame_other Nothing None k e p = other refusal.BadLine refl
+  frame_other Headed (Some (HeadFrame h)) k e p = other refusal.BadOrder refl
+  frame_other Headed (Some (S s)) k e p = takes_first s
+  frame_other Headed (Some (End m)) k e p = other refusal.BadOrder refl
+  frame_other Headed (Some (Clock c)) k e p = other refusal.BadLine refl
+  frame_other Headed None k e p = other refusal.BadLine refl
+  frame_other Open (Some (HeadFrame h)) k e p = other refusal.BadOrder refl
+  frame_other Open (Some (S s)) k e p = takes_s r ws (later_standing s.t r.rec.next) s k.agreed
+  frame_other Open (Some (End m)) k e p = takes_end r ws m
+  frame_other Open (Some (Clock c)) k e p = other refusal.BadLine refl
+  frame_other Open None k e p = other refusal.BadLine refl
+  frame_other Filled (Some (HeadFrame h)) k e p = other refusal.BadOrder refl
+  frame_other Filled (Some (S s)) k e p = other refusal.BadOrder refl
+  frame_other Filled (Some (End m)) k e p = takes_end r ws m
+  frame_other Filled (Some (Clock c)) k e p = other refusal.BadLine refl
+  frame_other Filled None k e p = other refusal.BadLine refl
   frame_other Ended f k e p = other refusal.BadLine refl
   frame_other (Refused why) f k e p = subst⁻¹ OtherStage e p
 
@@ -186,12 +185,12 @@ stops Filled n p = other refusal.BadLine refl
 stops Ended n p = either (eqb n 0) accepted (other refusal.BadLine refl)
 stops (Refused why) n p = p
 
-pub never_disagrees : (bytes came : List ℕ) → outcome_number (read_answer bytes came).outcome ≡ 2 → ⊥
+pub never_disagrees : (bytes came : List ℕ) → answer_number (read_answer bytes came).outcome ≡ 2 → ⊥
 unfolding read_lines read_outcome read_answer Sound
 never_disagrees bytes came =
     go (read_outcome bytes came)
     (stops (read_lines bytes came).reading.stage (length (rest_of bytes)) (lines_other (length came) (begun came) (lines_of bytes) (refl, refl) tt))
   where
-    go : (o : Outcome) → Other o → outcome_number (answered_by o (read_lines bytes came).reading).outcome ≡ 2 → ⊥
-    go outcome.Accepted accepted e = let z : ⊥ = omega arith in z
-    go (outcome.Refused why) (other _ k) e = eqb-false (refusal_number why) 2 k e
+    go : (o : Outcome) → Other o → answer_number (answered_by o (read_lines bytes came).reading).outcome ≡ 2 → ⊥
+    go (Ok _) accepted e = let z : ⊥ = omega arith in z
+    go (Err why) (other _ k) e = eqb-false (refusal_number why) 2 k e

@@ -8,11 +8,12 @@ use lib.ListN.{length, take, replicate}
 use lib.Seq.{take-take}
 use native.Mathlib.Nat.{le_refl}
 use Rattle.agreement.specs.declared.refusal.Refusal.TheVariants.{Disagreement}
-use Rattle.keeping.specs.declared.Outcome.TheVariants as outcome
+use Rattle.std.specs.Prelude.{Err}
 use Rattle.keeping.specs.Keeping.{words_by}
 use Rattle.timeline.specs.Opening.{zero_record}
 use Rattle.file.specs.declared.LineSoFar.{LineSoFar}
 use Rattle.file.specs.declared.Reader.{Reader}
+use Rattle.file.specs.declared.ReadAnswer.{ReadAnswer}
 use Rattle.file.specs.Lines.{lines_from, rest_from, rest_of}
 use Rattle.file.specs.Judging.{File, take_lines, read_lines, read_outcome, answered_by, read_answer, zeroed, read_table}
 use Rattle.file.specs.SoFar.{most_bytes, so_far, first_bytes}
@@ -84,7 +85,7 @@ module _ (fed came : List ℕ) where
   unfolding finish_answer reader_after read_answer
   fed_finish_answer =
       let x = reader_after fed came in
-      ap (λ t. cond t (answered_by (finish_outcome x) x.reading) (record { outcome = outcome.Refused Disagreement; rec = zero_record; line = 0 })) fed_belongs ∙
+      ap (λ t. cond t (answered_by (finish_outcome x) x.reading) (record { outcome = Err Disagreement; rec = zero_record; line = 0 })) fed_belongs ∙
       ap (λ o. answered_by o (read_lines fed came).reading) outcome_is
 
   pub fed_finish_table : finish_table (reader_after fed came) (table_after fed came) ≡ read_table fed came
@@ -94,6 +95,21 @@ module _ (fed came : List ℕ) where
       let ws = table_after fed came in
       ap (λ t. cond t (words_by (finish_outcome x) ws (zeroed ws)) ws) fed_belongs ∙
       ap₂ (λ o (n : ℕ). words_by o (read_lines fed came).words (replicate n 0)) outcome_is (read_sound fed came).1
+
+-- ---- the whole file as one piece
+
+module _ (bytes came : List ℕ) (x y : Reader) (b : x ≡ begun_reader) (ws : List ℕ) (f : y ≡ fed_reader x came bytes) (t : ws ≡ fed_table x came bytes) where
+  whole_reader : y ≡ reader_after bytes came
+  whole_reader = f ∙ ap₂ (λ z vs. fed_reader z vs bytes) (b ∙ fed_begun_reader came) (fed_begun_table came) ∙ fed_on_reader [] came bytes
+
+  whole_words : ws ≡ table_after bytes came
+  whole_words = t ∙ ap₂ (λ z vs. fed_table z vs bytes) (b ∙ fed_begun_reader came) (fed_begun_table came) ∙ fed_on_table [] came bytes
+
+  pub whole_answer : (a : ReadAnswer) → a ≡ finish_answer y ws → a ≡ read_answer bytes came
+  whole_answer a k = k ∙ ap₂ finish_answer whole_reader whole_words ∙ fed_finish_answer bytes came
+
+  pub whole_table : (vs : List ℕ) → vs ≡ finish_table y ws → vs ≡ read_table bytes came
+  whole_table vs k = k ∙ ap₂ finish_table whole_reader whole_words ∙ fed_finish_table bytes came
 
 -- ---- over a list of pieces
 

@@ -9,8 +9,8 @@ use lib.Dec.{eqb, ltb}
 use lib.ListN.{length, replicate}
 use Rattle.units.specs.declared.Distance.{Distance}
 use Rattle.units.specs.declared.Span.{Span}
-use Rattle.units.specs.declared.SpanMade.{SpanMade}
-use Rattle.units.specs.declared.SpanMade.TheVariants as span
+use Rattle.std.specs.Prelude.{Err, None, Ok, Option, Some}
+use Rattle.keeping.specs.Keeping.{Outcome}
 use Rattle.units.specs.declared.WideTick.{WideTick}
 use Rattle.units.specs.declared.standing.Standing.{Standing}
 use Rattle.units.specs.declared.standing.Standing.TheVariants.{Joins, Gap, Overlap}
@@ -27,8 +27,6 @@ use Rattle.agreement.specs.declared.refusal.Refusal.{Refusal}
 use Rattle.agreement.specs.declared.refusal.Refusal.TheVariants as refusal
 use Rattle.agreement.specs.Agreement.{agrees}
 use Rattle.agreement.proofs.Agreeing.{agreeing}
-use Rattle.keeping.specs.declared.Outcome.{Outcome}
-use Rattle.keeping.specs.declared.Outcome.TheVariants as outcome
 use Rattle.keeping.specs.declared.Changed.{Changed}
 use Rattle.keeping.specs.Keeping.{words_keeping, changed_by, words_by}
 use Rattle.keeping.specs.Append.{unspent_of, fit_outcome, appended}
@@ -51,14 +49,14 @@ use Rattle.file.proofs.Steps.{both, refused_is, refused_by, appended_by_lem}
 -- what it comes to, by the tests that are left where it lasts and joins
 reached : Record → List ℕ → ℕ → ℕ → Bool → Bool → Outcome
 reached rec ws d n known before =
-    cond known (cond before (fit_outcome rec ws d n) (outcome.Refused refusal.PastEnd)) (outcome.Refused refusal.NoEndToReach)
+    cond known (cond before (fit_outcome rec ws d n) (Err refusal.PastEnd)) (Err refusal.NoEndToReach)
 
 reach_by : (rec : Record) (ws : List ℕ) (st k : Standing) (d n : ℕ) (z : Bool) → eqb d 0 ≡ z → st ≡ k →
     reach_outcome rec ws st d n ≡
-    cond z (outcome.Refused refusal.NothingGiven) (unjoined k else reached rec ws d n (end_known rec.head) (before_end rec.head rec.next.0))
+    cond z (Err refusal.NothingGiven) (unjoined k else reached rec ws d n (end_known rec.head) (before_end rec.head rec.next.0))
 unfolding reach_outcome reached
 reach_by rec ws st k d n z e j =
-    ap₂ (λ b y. cond b (outcome.Refused refusal.NothingGiven) (unjoined y else reached rec ws d n (end_known rec.head) (before_end rec.head rec.next.0))) e j
+    ap₂ (λ b y. cond b (Err refusal.NothingGiven) (unjoined y else reached rec ws d n (end_known rec.head) (before_end rec.head rec.next.0))) e j
 
 module _ (r : Reading) (ws : List ℕ) (span : Span) (h : Running r ws × (span_held span ≡ true)) where
   least : ℕ
@@ -73,7 +71,7 @@ module _ (r : Reading) (ws : List ℕ) (span : Span) (h : Running r ws × (span_
       reach_by r.rec ws Joins Joins span.0 n false (ne_eqb span.0 0 (λ z. let f : ⊥ = omega (arith, lasts) in f)) refl ∙
       ap₂ (reached r.rec ws span.0 n) e b
 
-  reach_refused : (why : Refusal) → reach_outcome r.rec ws Joins span.0 least ≡ outcome.Refused why →
+  reach_refused : (why : Refusal) → reach_outcome r.rec ws Joins span.0 least ≡ Err why →
       (x : Reading) → x ≡ record { stage = Refused why; lines = r.lines; rec = r.rec } →
       ◌≡◌ {A = File} (record { reading = x; words = ws }) (reaches_by r ws Joins span.0)
   unfolding reaches_by least
@@ -91,8 +89,11 @@ module _ (r : Reading) (ws : List ℕ) (span : Span) (h : Running r ws × (span_
   few_lines = omega (arith, h.0.few, (agreeing r.rec ws h.0.agreed).held.accepted)
 
   module _ (known : r.rec.head.duration.0 ≡ 0 → ⊥) where
-    pub before_asks : Held r.rec.head × (r.rec.next.0 ≤ largest_tick)
-    before_asks = let f = (agreeing r.rec ws h.0.agreed).held in (f.head, f.next)
+    pub head_asks : Held r.rec.head
+    head_asks = (agreeing r.rec ws h.0.agreed).held.head
+
+    pub before_asks : r.rec.next.0 ≤ largest_tick
+    before_asks = (agreeing r.rec ws h.0.agreed).held.next
 
     module _ (t : Bool) (e : t ≡ before_end r.rec.head r.rec.next.0) where
       pub reach_past : not t ≡ true → (x : Reading) → x ≡ record { stage = Refused refusal.PastEnd; lines = r.lines; rec = r.rec } →
@@ -104,14 +105,11 @@ module _ (r : Reading) (ws : List ℕ) (span : Span) (h : Running r ws × (span_
         begins : before_end r.rec.head r.rec.next.0 ≡ true
         begins = sym e ∙ not-false t m
 
-        pub least_asks : Held r.rec.head × (r.rec.next.0 ≤ largest_tick) × (span.0 ≤ largest_span) × (1 ≤ span.0) ×
+        pub least_asks : (r.rec.next.0 ≤ largest_tick) × (span.0 ≤ largest_span) × (1 ≤ span.0) ×
             (end_known r.rec.head ≡ true) × (before_end r.rec.head r.rec.next.0 ≡ true)
-        least_asks = (before_asks.0, before_asks.1, (span_limits span h.1).1, lasts, is_known r.rec.head known, begins)
+        least_asks = (before_asks, (span_limits span h.1).1, lasts, is_known r.rec.head known, begins)
 
         module _ (n : ℕ) (l : LeastCount r.rec.head r.rec.next.0 span.0 n) where
-          pub joined_asks : (agrees r.rec ws ≡ true) × (span_held span ≡ true) × (1 ≤ n)
-          joined_asks = (h.0.agreed, h.1, l.some)
-
           pub reach_appended : (c : Changed) → c ≡ changed_by (fit_outcome r.rec ws span.0 n) (appended r.rec ws span.0 n) r.rec →
               (vs : List ℕ) → vs ≡ words_by (fit_outcome r.rec ws span.0 n) (words_keeping ws (unspent_of r.rec ws span.0 n)) ws →
               (x : Reading) → x ≡ settled_reading c.outcome Filled r c.rec →
@@ -127,8 +125,8 @@ module _ (r : Reading) (ws : List ℕ) (span : Span) (h : Running r ws × (span_
 
 module _ (r : Reading) (ws : List ℕ) (st : Standing) (s : SFields) (h : Running r ws × (s.d ≤ largest_span)) where
   -- what both kinds of r are refused with
-  s_refused : (why : Refusal) → ((n : ℕ) → (n ≡ 0 → ⊥) → append_outcome r.rec ws st s.d n ≡ outcome.Refused why) →
-      ((n : ℕ) → reach_outcome r.rec ws st s.d n ≡ outcome.Refused why) →
+  s_refused : (why : Refusal) → ((n : ℕ) → (n ≡ 0 → ⊥) → append_outcome r.rec ws st s.d n ≡ Err why) →
+      ((n : ℕ) → reach_outcome r.rec ws st s.d n ≡ Err why) →
       (x : Reading) → x ≡ record { stage = Refused why; lines = r.lines; rec = r.rec } → ◌≡◌ {A = File} (record { reading = x; words = ws }) (take_s r ws st s)
   unfolding take_s reaches_by
   s_refused why a b x k = refused_by r ws why x k (take_s r ws st s) (go (ltb s.r first_negative))
@@ -144,15 +142,15 @@ module _ (r : Reading) (ws : List ℕ) (st : Standing) (s : SFields) (h : Runnin
           (words_keeping ws (unspent_of r.rec ws s.d n)) ws (b n)
 
   -- the answer of the constructor decides first
-  module _ (m : SpanMade) (made : m ≡ span_made s.d) where
-    pub s_nothing : m ≡ span.Refused → (x : Reading) → x ≡ record { stage = Refused refusal.NothingGiven; lines = r.lines; rec = r.rec } →
+  module _ (m : Option Span) (made : m ≡ span_made s.d) where
+    pub s_nothing : m ≡ None → (x : Reading) → x ≡ record { stage = Refused refusal.NothingGiven; lines = r.lines; rec = r.rec } →
         ◌≡◌ {A = File} (record { reading = x; words = ws }) (take_s r ws st s)
     s_nothing o x k =
         let z = makers.no_duration s.d m made h.1 o in
         s_refused refusal.NothingGiven (λ n i. no_duration r.rec ws st s.d n h.0.agreed z)
         (λ n. reach_by r.rec ws st st s.d n true (eq-eqb s.d 0 z) refl) x k
 
-    module _ (sp : Span) (o : m ≡ span.Made sp) where
+    module _ (sp : Span) (o : m ≡ Some sp) where
       i : s.d ≡ 0 → ⊥
       i = makers.duration_some s.d m made sp o
 
@@ -192,9 +190,6 @@ module _ (r : Reading) (ws : List ℕ) (st : Standing) (s : SFields) (h : Runnin
         s_reaches n x vs k = k ∙ ap (λ (y : Span). reaches_by r ws Joins y.0) is ∙ by_sign false (le-ltb s.r first_negative n)
 
         module _ (n : s.r < first_negative) where
-          pub s_asks : (agrees r.rec ws ≡ true) × (span_held sp ≡ true) × (1 ≤ s.r + 1)
-          s_asks = (h.0.agreed, s_held.1, omega arith)
-
           pub s_lines_lem : r.lines ≤ most_lines
           s_lines_lem = few_lines r ws sp s_held
 
@@ -232,35 +227,35 @@ module _ (r : Reading) (ws : List ℕ) (s : SFields) (h : Begins r × (s.d ≤ l
   -- what the call answered tells its outcome
   told : (o other : Outcome) (new old : Record) (d : Changed) → d ≡ changed_by o new old → d.outcome ≡ other → o ≡ other
   unfolding changed_by
-  told outcome.Accepted other new old d p q = ap (λ (y : Changed). y.outcome) (sym p) ∙ q
-  told (outcome.Refused why) other new old d p q = ap (λ (y : Changed). y.outcome) (sym p) ∙ q
+  told (Ok _) other new old d p q = ap (λ (y : Changed). y.outcome) (sym p) ∙ q
+  told (Err why) other new old d p q = ap (λ (y : Changed). y.outcome) (sym p) ∙ q
 
   opens : (o : Outcome) → c.outcome ≡ o → opening ≡ o
   opens o q = told opening o (fresh_record r.rec.head (tick_of (first_tick s.t))) zero_record c same_answer q
 
-  pub first_refused : (why : Refusal) → c.outcome ≡ outcome.Refused why →
+  pub first_refused : (why : Refusal) → c.outcome ≡ Err why →
       (x : Reading) → x ≡ record { stage = Refused why; lines = r.lines; rec = r.rec } → ◌≡◌ {A = File} (record { reading = x; words = vs }) (take_first_s r ws s)
   unfolding take_first_s opening words_by
   first_refused why q x j =
       both x (record { stage = Refused why; lines = r.lines; rec = r.rec }) vs ws j
-      (same_words ∙ ap (λ o. words_by o (replicate (length ws) 0) ws) (opens (outcome.Refused why) q)) ∙
-      sym (ap (λ o. opened_by o r ws s) (opens (outcome.Refused why) q))
+      (same_words ∙ ap (λ o. words_by o (replicate (length ws) 0) ws) (opens (Err why) q)) ∙
+      sym (ap (λ o. opened_by o r ws s) (opens (Err why) q))
 
-  module _ (q : c.outcome ≡ outcome.Accepted) where
+  module _ (q : c.outcome ≡ Ok tt) where
     fresh : Record
     fresh = fresh_record r.rec.head (tick_of (first_tick s.t))
 
     opened_record : c.rec ≡ fresh
     unfolding changed_by fresh
-    opened_record = ap (λ (y : Changed). y.rec) (same_answer ∙ ap (λ o. changed_by o fresh zero_record) (opens outcome.Accepted q))
+    opened_record = ap (λ (y : Changed). y.rec) (same_answer ∙ ap (λ o. changed_by o fresh zero_record) (opens (Ok tt) q))
 
     opened_words : vs ≡ replicate (length ws) 0
     unfolding words_by
-    opened_words = same_words ∙ ap (λ o. words_by o (replicate (length ws) 0) ws) (opens outcome.Accepted q)
+    opened_words = same_words ∙ ap (λ o. words_by o (replicate (length ws) 0) ws) (opens (Ok tt) q)
 
     opened_agrees : agrees fresh (replicate (length ws) 0) ≡ true
     unfolding fresh opening
-    opened_agrees = open_agrees r.rec.head (tick_of (first_tick s.t)) (length ws) (opens outcome.Accepted q)
+    opened_agrees = open_agrees r.rec.head (tick_of (first_tick s.t)) (length ws) (opens (Ok tt) q)
 
     pub first_asks : Running (record { stage = Headed; lines = r.lines; rec = c.rec }) vs × (s.d ≤ largest_span)
     unfolding fresh
@@ -280,4 +275,4 @@ module _ (r : Reading) (ws : List ℕ) (s : SFields) (h : Begins r × (s.d ≤ l
     first_taken x us j =
         j ∙
         ap₂ (λ y z. take_s (record { stage = Headed; lines = r.lines; rec = y }) z Joins s) opened_record opened_words ∙
-        sym (ap (λ o. opened_by o r ws s) (opens outcome.Accepted q))
+        sym (ap (λ o. opened_by o r ws s) (opens (Ok tt) q))

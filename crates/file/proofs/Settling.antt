@@ -9,56 +9,23 @@ use lib.Dec.{leb}
 use lib.ListN.{length, length-append}
 use Rattle.agreement.specs.declared.refusal.Refusal.{Refusal}
 use Rattle.agreement.specs.declared.refusal.Refusal.TheVariants.{BadLine}
-use Rattle.keeping.specs.declared.Outcome.{Outcome}
-use Rattle.keeping.specs.declared.Outcome.TheVariants as outcome
+use Rattle.std.specs.Prelude.{Err, None, Ok, Option}
+use Rattle.keeping.specs.Keeping.{Outcome}
 use Rattle.keeping.specs.Keeping.{words_by}
 use Rattle.timeline.specs.Opening.{zero_record}
 use Rattle.frames.specs.declared.Frame.{Frame}
-use Rattle.frames.specs.declared.Frame.TheVariants.{Bad}
 use Rattle.frames.specs.Frames.{frame_of}
 use Rattle.frames.proofs.Lines.{too_long_lem}
 use Rattle.file.specs.declared.Stage.{Stage}
 use Rattle.file.specs.declared.Stage.TheVariants.{Nothing, Headed, Open, Filled, Ended, Refused}
 use Rattle.file.specs.declared.Reading.{Reading}
-use Rattle.file.specs.declared.Reader.{Reader}
 use Rattle.file.specs.declared.ReadAnswer.{ReadAnswer}
 use Rattle.file.specs.Lines.{has_feed, first_line, behind_first, lines_from, rest_from, rest_of}
 use Rattle.file.specs.Judging.{File, refused, on_nothing, on_headed, on_open, on_filled, on_frame, take_line, take_lines, read_lines, stop_outcome, read_outcome, answered_by, read_answer, zeroed, read_table}
-use Rattle.file.specs.SoFar.{most_bytes, so_far, too_long}
+use Rattle.file.specs.SoFar.{most_bytes, so_far}
 use Rattle.file.specs.Feeding.{reader_after}
 use Rattle.file.specs.Settled.{stage_settled, reader_settled, SettledFile}
 use Rattle.file.proofs.Cutting.{no_line, lines_first, unfed_unended, rest_append, read_append}
-
--- ---- the test of the code
-
-module _ (x : Reader) (t : Bool) (k : t ≡ too_long x.line) where
-  pub long_settled : t ≡ true → true ≡ reader_settled x
-  unfolding reader_settled
-  long_settled e = sym (ap (λ u. cond u true (stage_settled x.reading.stage x.line.count)) (sym k ∙ e))
-
-  module _ (e : t ≡ false) where
-    by_stage : (s : Stage) → x.reading.stage ≡ s → stage_settled s x.line.count ≡ reader_settled x
-    unfolding reader_settled
-    by_stage s f =
-        sym (ap₂ (λ u (y : Stage). cond u true (stage_settled y x.line.count)) (sym k ∙ e) f)
-
-    pub ended_settled : x.reading.stage ≡ Ended → leb 1 x.line.count ≡ reader_settled x
-    ended_settled f = by_stage Ended f
-
-    pub refused_settled : (why : Refusal) → x.reading.stage ≡ Refused why → true ≡ reader_settled x
-    refused_settled why f = by_stage (Refused why) f
-
-    pub nothing_open : x.reading.stage ≡ Nothing → false ≡ reader_settled x
-    nothing_open f = by_stage Nothing f
-
-    pub headed_open : x.reading.stage ≡ Headed → false ≡ reader_settled x
-    headed_open f = by_stage Headed f
-
-    pub open_open : x.reading.stage ≡ Open → false ≡ reader_settled x
-    open_open f = by_stage Open f
-
-    pub filled_open : x.reading.stage ≡ Filled → false ≡ reader_settled x
-    filled_open f = by_stage Filled f
 
 -- ---- what is refused stays so
 
@@ -71,8 +38,8 @@ refused_stays f why e (l ∷ ls) =
 -- a file that is refused as it stands, and with more behind it, for the same reason at the same line
 record Alike (f : File) (rest : List ℕ) (g : File) (left : List ℕ) : Type 0 where
   why : Refusal
-  here : stop_outcome f.reading.stage (length rest) ≡ outcome.Refused why
-  there : stop_outcome g.reading.stage (length left) ≡ outcome.Refused why
+  here : stop_outcome f.reading.stage (length rest) ≡ Err why
+  there : stop_outcome g.reading.stage (length left) ≡ Err why
   lines : g.reading.lines ≡ f.reading.lines
 
 module _ (f : File) (rest more : List ℕ) where
@@ -87,7 +54,7 @@ module _ (f : File) (rest more : List ℕ) where
       }
 
   -- the line that is not ended is refused with 16, whether it is ended or not
-  module _ (some : 1 ≤ length rest) (stops : (n : ℕ) → 1 ≤ n → stop_outcome f.reading.stage n ≡ outcome.Refused BadLine)
+  module _ (some : 1 ≤ length rest) (stops : (n : ℕ) → 1 ≤ n → stop_outcome f.reading.stage n ≡ Err BadLine)
       (bad : take_line f (rest ++ first_line more) ≡ refused BadLine f.reading f.words) where
     alike_bad : Alike f rest (take_lines f (lines_from rest more)) (rest_from rest more)
     unfolding take_lines
@@ -120,7 +87,7 @@ module _ (f : File) (rest more : List ℕ) where
 -- ---- by the stage
 
 -- a line that is no frame, where no line was refused
-bad_here : (s : Stage) → ((why : Refusal) → s ≡ Refused why → ⊥) → (r : Reading) (ws : List ℕ) → on_frame s r ws Bad ≡ refused BadLine r ws
+bad_here : (s : Stage) → ((why : Refusal) → s ≡ Refused why → ⊥) → (r : Reading) (ws : List ℕ) → on_frame s r ws None ≡ refused BadLine r ws
 unfolding on_nothing on_headed on_open on_filled
 bad_here Nothing n r ws = refl
 bad_here Headed n r ws = refl
@@ -129,12 +96,12 @@ bad_here Filled n r ws = refl
 bad_here Ended n r ws = refl
 bad_here (Refused why) n r ws = absurd (n why refl)
 
-stops_here : (s : Stage) → ((why : Refusal) → s ≡ Refused why → ⊥) → (n : ℕ) → 1 ≤ n → stop_outcome s n ≡ outcome.Refused BadLine
+stops_here : (s : Stage) → ((why : Refusal) → s ≡ Refused why → ⊥) → (n : ℕ) → 1 ≤ n → stop_outcome s n ≡ Err BadLine
 stops_here Nothing m n l = refl
 stops_here Headed m n l = refl
 stops_here Open m n l = refl
 stops_here Filled m n l = refl
-stops_here Ended m n l = ap (λ t. cond t outcome.Accepted (outcome.Refused BadLine)) (ne_eqb n 0 (λ z. let w : ⊥ = omega arith in w))
+stops_here Ended m n l = ap (λ t. cond t (Ok tt) (Err BadLine)) (ne_eqb n 0 (λ z. let w : ⊥ = omega arith in w))
 stops_here (Refused why) m n l = absurd (m why refl)
 
 -- two stages that differ
@@ -150,14 +117,14 @@ module _ (f : File) (rest more : List ℕ) where
   unfolding take_line
   alike_long l s e = go s e
     where
-      frame_bad : frame_of (rest ++ first_line more) ≡ Bad
+      frame_bad : frame_of (rest ++ first_line more) ≡ None
       frame_bad = too_long_lem (rest ++ first_line more) (omega (arith, length-append rest (first_line more)))
 
       by : ((why : Refusal) → s ≡ Refused why → ⊥) → Same
       by n =
           alike_bad f rest more (omega arith)
           (λ k m. ap (λ (y : Stage). stop_outcome y k) e ∙ stops_here s n k m)
-          (ap₂ (λ (y : Stage) (x : Frame). on_frame y f.reading f.words x) e frame_bad ∙ bad_here s n f.reading f.words)
+          (ap₂ (λ (y : Stage) (x : Option Frame). on_frame y f.reading f.words x) e frame_bad ∙ bad_here s n f.reading f.words)
 
       go : (y : Stage) → f.reading.stage ≡ y → Same
       go Nothing k = by (λ why. apart s why (λ z. let w = sym e ∙ k in cc))
@@ -202,11 +169,11 @@ module _ (came fed more : List ℕ) (h : reader_settled (reader_after fed came) 
   on : read_lines (fed ++ more) came ≡ take_lines (read_lines fed came) (lines_from (rest_of fed) more)
   on = read_append fed more came
 
-  outcome_here : read_outcome fed came ≡ outcome.Refused alike.why
+  outcome_here : read_outcome fed came ≡ Err alike.why
   unfolding read_outcome
   outcome_here = alike.here
 
-  outcome_there : read_outcome (fed ++ more) came ≡ outcome.Refused alike.why
+  outcome_there : read_outcome (fed ++ more) came ≡ Err alike.why
   unfolding read_outcome
   outcome_there =
       ap₂ (λ (g : File) (bs : List ℕ). stop_outcome g.reading.stage (length bs)) on (rest_append [] fed more) ∙ alike.there
@@ -215,7 +182,7 @@ module _ (came fed more : List ℕ) (h : reader_settled (reader_after fed came) 
   lines_same = ap (λ (g : File). g.reading.lines) on ∙ alike.lines
 
   abbrev refused_at : ℕ → ReadAnswer
-  refused_at n = answered_by (outcome.Refused alike.why) (record { stage = Nothing; lines = n; rec = zero_record })
+  refused_at n = answered_by (Err alike.why) (record { stage = Nothing; lines = n; rec = zero_record })
 
   same_answer : read_answer (fed ++ more) came ≡ read_answer fed came
   unfolding read_answer

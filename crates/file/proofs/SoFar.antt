@@ -2,13 +2,15 @@
 use mathlib.Core.Path.{◌≡◌, refl, sym, ap, ap₂, ◌∙◌}
 use mathlib.Core.Bool.{Bool, true, false, ◌&&◌}
 use mathlib.Core.List.{List, [], ◌∷◌, ◌++◌, append_assoc, append-nil}
-use Prim.Native.Nat.{ℕ, zero, suc, ◌+◌, ◌-◌, ◌≤◌, ◌<◌, min}
-use native.Mathlib.Numerals.{add-one}
+use Prim.Native.Nat.{ℕ, zero, suc, ◌+◌, ◌-◌, ◌≤◌, min}
 use native.Mathlib.Omega.{arith}
 use borrow.Author.Tests.{le-leb, leb-true, leb-false}
-use lib.Dec.{leb}
-use lib.ListN.{length, get_or, take, drop, set, replicate, take-append-drop, length-append, length-take, length-drop, length-set}
-use lib.Seq.{take_all, take-take, take_at, drop_at, take-suc, set_at, length-take-le}
+use lib.Dec.{eqb, leb}
+use lib.ListN.{length, take, drop, replicate, take-append-drop, length-append, length-take, length-drop}
+use lib.Seq.{take_all, take_at, drop_at, length-take-le}
+use Rattle.std.proofs.Math.Seq.{take-append-add}
+use Rattle.std.proofs.lemmas.List.{drop-replicate, take_min, take-append-le}
+use Rattle.std.specs.List.{list_all}
 use Rattle.runs.specs.Shape.{zeros}
 use Rattle.runs.proofs.Tables.{zeros_are, are_zeros}
 use Rattle.file.specs.declared.LineSoFar.{LineSoFar}
@@ -20,11 +22,6 @@ pub first_more : (n : ℕ) (b ys : List ℕ) → take n (take n b ++ ys) ≡ tak
 first_more zero b ys = refl
 first_more (suc n) [] ys = refl
 first_more (suc n) (x ∷ b) ys = ap (λ l. x ∷ l) (first_more n b ys)
-
-first_past : (n : ℕ) (xs ys : List ℕ) (m : ℕ) → n ≤ length xs + m → take n (xs ++ take m ys) ≡ take n (xs ++ ys)
-first_past n [] ys m l = take-take n m ys (omega arith)
-first_past zero (x ∷ xs) ys m l = refl
-first_past (suc n) (x ∷ xs) ys m l = ap (λ r. x ∷ r) (first_past n xs ys m (omega arith))
 
 -- ---- lines of the same first bytes are the same
 
@@ -57,6 +54,18 @@ goes_on_lem come part =
 
 -- ---- a proper line is the line of its first bytes
 
+abbrev pub is_zero : ℕ → Bool
+is_zero b = eqb b 0
+
+-- as the code tests it
+pub zeros_all : (bs : List ℕ) → list_all is_zero bs ≡ zeros bs
+unfolding zeros
+zeros_all [] = refl
+zeros_all (b ∷ bs) = ap (λ (t : Bool). is_zero b && t) (zeros_all bs)
+
+pub rest_whole : (l : LineSoFar) → length l.bytes ≡ most_bytes → take (most_bytes - l.count) (drop l.count l.bytes) ≡ drop l.count l.bytes
+rest_whole l long = take_all (most_bytes - l.count) (drop l.count l.bytes) (omega (arith, length-drop l.count l.bytes))
+
 pub is_proper : (come : List ℕ) → proper (so_far come) ≡ true
 unfolding so_far
 is_proper come =
@@ -79,137 +88,66 @@ module _ (l : LineSoFar) (long : length l.bytes ≡ most_bytes) (short : l.count
       ap₂ ◌++◌ (sym (take_all most_bytes (first_bytes l) (omega (arith, counted)))) (zeros_are (drop l.count l.bytes) clear ∙ ap (λ (m : ℕ). replicate m 0) room))
       few
 
--- ---- one byte more
+-- ---- a part behind a line of which `come` has come, as much of it as there is room for
 
-module _ (bytes : List ℕ) (count : ℕ) (come : List ℕ) (e : line bytes count ≡ so_far come) where
-  count_is : count ≡ min most_bytes (length come)
+module _ (l : LineSoFar) (come : List ℕ) (e : l ≡ so_far come) where
+  count_is : l.count ≡ min most_bytes (length come)
   unfolding so_far
-  count_is = ap (λ (l : LineSoFar). l.count) e
+  count_is = ap (λ (x : LineSoFar). x.count) e
 
-  bytes_are : bytes ≡ take most_bytes come ++ replicate (most_bytes - length come) 0
+  bytes_are : l.bytes ≡ take most_bytes come ++ replicate (most_bytes - length come) 0
   unfolding so_far
-  bytes_are = ap (λ (l : LineSoFar). l.bytes) e
+  bytes_are = ap (λ (x : LineSoFar). x.bytes) e
 
-  module _ (b : ℕ) (l : count < most_bytes) where
-    abbrev next : List ℕ
-    next = come ++ b ∷ []
+  module _ (n : ℕ) (m : n ≡ min l.count most_bytes) (part : List ℕ) (k : ℕ) (f : k ≡ min (length part) (most_bytes - n)) where
+    long : length (take most_bytes come) ≡ n
+    long = length-take most_bytes come ∙ omega (arith, count_is)
 
-    all : length come ≡ count
-    all = omega (arith, count_is)
+    front : take n l.bytes ≡ take most_bytes come
+    front = ap (take n) bytes_are ∙ take_at (take most_bytes come) (replicate (most_bytes - length come) 0) n long
 
-    more : length next ≡ count + 1
-    more = length-append come (b ∷ []) ∙ ap (λ (n : ℕ). n + 1) all
+    behind : (j : ℕ) → drop j (drop n l.bytes) ≡ replicate (most_bytes - length come - j) 0
+    behind j =
+        ap (λ (bs : List ℕ). drop j (drop n bs)) bytes_are ∙
+        ap (drop j) (drop_at (take most_bytes come) (replicate (most_bytes - length come) 0) n long) ∙
+        drop-replicate j (most_bytes - length come) 0
 
-    abbrev left : List ℕ
-    left = replicate (most_bytes - length next) 0
+    joined : take most_bytes (come ++ part) ≡ take most_bytes come ++ take k part
+    joined = go (leb (length come) most_bytes) refl
+      where
+        go : (t : Bool) → leb (length come) most_bytes ≡ t → take most_bytes (come ++ part) ≡ take most_bytes come ++ take k part
+        go true b =
+            let short = leb-true (length come) most_bytes b in
+            let whole : most_bytes ≡ length come + (most_bytes - length come) = omega arith in
+            let room : min (most_bytes - length come) (length part) ≡ k = omega (arith, count_is) in
+            ap (λ (i : ℕ). take i (come ++ part)) whole ∙
+            take-append-add come part (most_bytes - length come) ∙
+            ap₂ ◌++◌ (sym (take_all most_bytes come short))
+            (sym (take_min (most_bytes - length come) part) ∙ ap (λ (i : ℕ). take i part) room)
+        go false b =
+            let more = leb-false (length come) most_bytes b in
+            let none : 0 ≡ k = omega (arith, count_is) in
+            take-append-le most_bytes come part (omega arith) ∙
+            sym (append-nil (take most_bytes come)) ∙
+            ap (λ (i : ℕ). take most_bytes come ++ take i part) none
 
-    come_all : bytes ≡ come ++ 0 ∷ left
-    come_all =
-        let some : most_bytes - length come ≡ suc (most_bytes - length next) = omega (arith, all, more) in
-        bytes_are ∙
-        ap (λ (bs : List ℕ). bs ++ replicate (most_bytes - length come) 0) (take_all most_bytes come (omega (arith, all))) ∙
-        ap (λ (n : ℕ). come ++ replicate n 0) some
-
-    bytes_next : set bytes count b ≡ take most_bytes next ++ left
-    bytes_next =
-        ap (λ (bs : List ℕ). set bs count b) come_all ∙
-        set_at come 0 left b count all ∙
-        sym (append_assoc come (b ∷ []) left) ∙
-        ap (λ (bs : List ℕ). bs ++ left) (sym (take_all most_bytes next (omega (arith, more))))
-
-    one_more : line (set bytes count b) (count + 1) ≡ so_far next
+    pub with_is : (mid : List ℕ) → mid ≡ take (n + k - n) part →
+        line (take n l.bytes ++ (mid ++ drop (n + k - n) (drop n l.bytes))) (n + k) ≡ so_far (come ++ part)
     unfolding so_far
-    one_more =
-        let few : count + 1 ≡ min most_bytes (length next) = omega (arith, more) in
-        ap₂ line bytes_next few
-
--- ---- the loop that adds a part: so much of it is added, from the bytes and the count that it began with
-
-pub record Added (bytes₀ : List ℕ) (count₀ : ℕ) (part : List ℕ) (most : ℕ) (bytes : List ℕ) (count i : ℕ) : Type 0 where
-  pub long : length bytes ≡ most_bytes
-  pub short : count₀ ≤ most_bytes
-  pub most_is : most ≡ min (length part) (most_bytes - count₀)
-  pub place : count ≡ count₀ + i
-  pub within : i ≤ most
-  pub same : (come : List ℕ) → line bytes₀ count₀ ≡ so_far come → line bytes count ≡ so_far (come ++ take i part)
-
-module _ (l : LineSoFar) (start : ℕ) (s : start ≡ min l.count most_bytes) where
-  pub room_left : start ≤ most_bytes
-  room_left = omega arith
-
-  pub added_none : length l.bytes ≡ most_bytes → (part : List ℕ) (most : ℕ) → most ≡ min (length part) (most_bytes - start) → Added l.bytes start part most l.bytes start 0
-  added_none long part most m =
-      record {
-        long = long;
-        short = omega arith;
-        most_is = m;
-        place = omega arith;
-        within = omega arith;
-        same = λ come e. e ∙ ap so_far (sym (append-nil come));
-      }
-
-module _ (bytes₀ : List ℕ) (count₀ : ℕ) (part : List ℕ) (most : ℕ) (bytes : List ℕ) (count i : ℕ) (w : Added bytes₀ count₀ part most bytes count i) where
-  pub added_place : i < most → count < length bytes
-  added_place n = omega (arith, w.long, w.short, w.place, w.most_is)
-
-  pub added_part : i < most → i < length part
-  added_part n = omega (arith, w.most_is)
-
-  pub added_more : i < most → Added bytes₀ count₀ part most (set bytes count (get_or part i 0)) (count + 1) (i + 1)
-  added_more n =
-      record {
-        long = length-set bytes count (get_or part i 0) ∙ w.long;
-        short = w.short;
-        most_is = w.most_is;
-        place = omega (arith, w.place);
-        within = omega arith;
-        same = λ come e.
-            one_more bytes count (come ++ take i part) (w.same come e) (get_or part i 0) (omega (arith, w.long, added_place n)) ∙
-            ap so_far
-            (append_assoc come (take i part) (get_or part i 0 ∷ []) ∙
-            ap (λ (r : List ℕ). come ++ r) (sym (ap (λ (k : ℕ). take k part) (add-one i) ∙ take-suc part i 0 (added_part n))));
-      }
-
-  added_last : most ≤ i → (come : List ℕ) → line bytes₀ count₀ ≡ so_far come → so_far (come ++ take i part) ≡ so_far (come ++ part)
-  added_last n come e = go (leb (length part) i) refl
-    where
-      go : (t : Bool) → leb (length part) i ≡ t → so_far (come ++ take i part) ≡ so_far (come ++ part)
-      go true k = ap (λ (r : List ℕ). so_far (come ++ r)) (take_all i part (leb-true (length part) i k))
-      go false k =
-          let some = leb-false (length part) i k in
-          same_line (come ++ take i part) (come ++ part)
-          (first_past most_bytes come part i (omega (arith, w.most_is, w.within, count_is bytes₀ count₀ come e)))
-
-pub added_all : (l : LineSoFar) (start : ℕ) → start ≡ min l.count most_bytes → (part : List ℕ) (most : ℕ) (bytes : List ℕ) (count i : ℕ) →
-    Added l.bytes start part most bytes count i → most ≤ i → (come : List ℕ) → l ≡ so_far come → line bytes count ≡ so_far (come ++ part)
-added_all l start s part most bytes count i w n come e =
-    let few : l.count ≡ min most_bytes (length come) = count_is l.bytes l.count come e in
-    let all : start ≡ l.count = omega (arith, few) in
-    let begun : line l.bytes start ≡ so_far come = ap (line l.bytes) all ∙ e in
-    w.same come begun ∙ added_last l.bytes start part most bytes count i w n come begun
-
-pub none_is : line (replicate most_bytes 0) 0 ≡ so_far []
-unfolding so_far
-none_is = refl
+    with_is mid i =
+        let some : n + k - n ≡ k = omega arith in
+        let left : most_bytes - length come - (n + k - n) ≡ most_bytes - length (come ++ part) = omega (arith, count_is, length-append come part) in
+        let few : n + k ≡ min most_bytes (length (come ++ part)) = omega (arith, count_is, length-append come part) in
+        ap₂ line
+        (ap₂ (λ (a b : List ℕ). a ++ (mid ++ b)) front (behind (n + k - n)) ∙
+        sym (append_assoc (take most_bytes come) mid (replicate (most_bytes - length come - (n + k - n)) 0)) ∙
+        ap₂ ◌++◌
+        (ap (λ (b : List ℕ). take most_bytes come ++ b) (i ∙ ap (λ (h : ℕ). take h part) some) ∙ sym joined)
+        (ap (λ (h : ℕ). replicate h 0) left))
+        few
 
 -- ---- a part behind a line of any fields
 
-module _ (l : LineSoFar) (long : length l.bytes ≡ most_bytes) (n : ℕ) (e : n ≡ min l.count most_bytes) where
-  pub len_within : n ≤ length l.bytes
-  len_within = omega arith
-
-  pub first_taken : take n l.bytes ≡ first_bytes l
-  first_taken = go (leb l.count most_bytes) refl
-    where
-      go : (t : Bool) → leb l.count most_bytes ≡ t → take n l.bytes ≡ first_bytes l
-      go true k =
-          let few = leb-true l.count most_bytes k in
-          let same : n ≡ l.count = omega arith in
-          ap (λ (m : ℕ). take m l.bytes) same
-      go false k =
-          let many = leb-false l.count most_bytes k in
-          take_all n l.bytes (omega arith) ∙ sym (take_all l.count l.bytes (omega arith))
-
-  pub more_is : (z f r : LineSoFar) (part : List ℕ) → z ≡ so_far [] → ((come : List ℕ) → z ≡ so_far come → f ≡ so_far (come ++ take n l.bytes)) →
-      ((come : List ℕ) → f ≡ so_far come → r ≡ so_far (come ++ part)) → r ≡ goes_on l part
-  more_is z f r part a b c = c (first_bytes l) (b [] a ∙ ap so_far first_taken)
+pub more_is : (l z f r : LineSoFar) (part first : List ℕ) → z ≡ so_far [] → first ≡ first_bytes l → ((come : List ℕ) → z ≡ so_far come → f ≡ so_far (come ++ first)) →
+    ((come : List ℕ) → f ≡ so_far come → r ≡ so_far (come ++ part)) → r ≡ goes_on l part
+more_is l z f r part first a e b c = c (first_bytes l) (b [] a ∙ ap so_far e)

@@ -19,8 +19,8 @@ use Rattle.agreement.specs.declared.Record.{Record}
 use Rattle.agreement.specs.declared.refusal.Refusal.{Refusal}
 use Rattle.agreement.specs.declared.refusal.Refusal.TheVariants as refusal
 use Rattle.agreement.specs.Agreement.{agrees}
-use Rattle.keeping.specs.declared.Outcome.{Outcome}
-use Rattle.keeping.specs.declared.Outcome.TheVariants as outcome
+use Rattle.std.specs.Prelude.{Err, None, Ok, Option, Some}
+use Rattle.keeping.specs.Keeping.{Outcome}
 use Rattle.keeping.specs.Keeping.{words_keeping, words_by}
 use Rattle.keeping.specs.Append.{unspent_of, fit_outcome, appended}
 use Rattle.keeping.proofs.Outcomes.{refused_not}
@@ -29,7 +29,7 @@ use Rattle.timeline.specs.Appending.{unjoined◌else◌, append_outcome}
 use Rattle.timeline.proofs.Judged.{stands_joins}
 use Rattle.timeline.proofs.Kept.{open_agrees, taken, accepted_keeps}
 use Rattle.frames.specs.declared.Frame.{Frame}
-use Rattle.frames.specs.declared.Frame.TheVariants.{Head as HeadFrame, S, End, Clock, Bad}
+use Rattle.frames.specs.declared.Frame.TheVariants.{Head as HeadFrame, S, End, Clock}
 use Rattle.frames.specs.declared.SFields.{SFields}
 use Rattle.frames.specs.Frames.{frame_of}
 use Rattle.file.specs.declared.Stage.{Stage}
@@ -91,7 +91,7 @@ module _ (r : Reading) (ws : List ℕ) where
 
 -- it is the outcome of an append of the least count
 reach_accepted : (rec : Record) (ws : List ℕ) (st : Standing) (d n : ℕ) → agrees rec ws ≡ true → (n ≡ least_count rec.head rec.next.0 d) →
-    reach_outcome rec ws st d n ≡ outcome.Accepted → append_outcome rec ws st d n ≡ outcome.Accepted
+    reach_outcome rec ws st d n ≡ Ok tt → append_outcome rec ws st d n ≡ Ok tt
 unfolding reach_outcome
 reach_accepted rec ws st d n a l o = go (eqb d 0) refl st refl (end_known rec.head) refl (before_end rec.head rec.next.0) refl o
   where
@@ -102,10 +102,10 @@ reach_accepted rec ws st d n a l o = go (eqb d 0) refl st refl (end_known rec.he
         f
 
     go : (t : Bool) → eqb d 0 ≡ t → (k : Standing) → st ≡ k → (u : Bool) → end_known rec.head ≡ u → (v : Bool) → before_end rec.head rec.next.0 ≡ v →
-        cond t (outcome.Refused refusal.NothingGiven)
-        (unjoined k else cond u (cond v (fit_outcome rec ws d n) (outcome.Refused refusal.PastEnd)) (outcome.Refused refusal.NoEndToReach)) ≡
-        outcome.Accepted →
-        append_outcome rec ws st d n ≡ outcome.Accepted
+        cond t (Err refusal.NothingGiven)
+        (unjoined k else cond u (cond v (fit_outcome rec ws d n) (Err refusal.PastEnd)) (Err refusal.NoEndToReach)) ≡
+        (Ok tt) →
+        append_outcome rec ws st d n ≡ Ok tt
     go true e k j u p v q o = absurd (refused_not refusal.NothingGiven o)
     go false e (Gap d) j u p v q o = absurd (refused_not (refusal.Gap d) o)
     go false e (Overlap d) j u p v q o = absurd (refused_not (refusal.Overlap d) o)
@@ -123,7 +123,7 @@ module _ (words : ℕ) (r : Reading) (ws : List ℕ) (long : length ws ≡ words
   running_few : Running r ws → r.lines ≤ most_lines
   running_few h = omega (arith, (running_lines r ws h).1)
 
-  appended_running : (d n : ℕ) (st : Standing) (s : Stage) → Running r ws → d ≤ largest_span → append_outcome r.rec ws st d n ≡ outcome.Accepted →
+  appended_running : (d n : ℕ) (st : Standing) (s : Stage) → Running r ws → d ≤ largest_span → append_outcome r.rec ws st d n ≡ Ok tt →
       Running (record { stage = s; lines = r.lines + 1; rec = appended r.rec ws d n }) (words_keeping ws (unspent_of r.rec ws d n)) ×
       (length (words_keeping ws (unspent_of r.rec ws d n)) ≡ words)
   appended_running d n st s h small o = (
@@ -146,12 +146,12 @@ module _ (words : ℕ) (r : Reading) (ws : List ℕ) (long : length ws ≡ words
           (p : Outcome) → reach_outcome r.rec ws st s.d (least_count r.rec.head r.rec.next.0 s.d) ≡ p →
           SoundFile words
           (cond t (appended_by o Open r ws s.d (s.r + 1)) (appended_by p Filled r ws s.d (least_count r.rec.head r.rec.next.0 s.d)))
-      go true outcome.Accepted e p f = appended_running s.d (s.r + 1) st Open h small e
-      go true (outcome.Refused why) e p f = (record { few = running_few h }, long)
-      go false o e outcome.Accepted f =
+      go true (Ok _) e p f = appended_running s.d (s.r + 1) st Open h small e
+      go true (Err why) e p f = (record { few = running_few h }, long)
+      go false o e (Ok _) f =
           let n = least_count r.rec.head r.rec.next.0 s.d in
           appended_running s.d n st Filled h small (reach_accepted r.rec ws st s.d n h.agreed refl f)
-      go false o e (outcome.Refused why) f = (record { few = running_few h }, long)
+      go false o e (Err why) f = (record { few = running_few h }, long)
 
   end_sound : (n : ℕ) → Running r ws → SoundFile words (take_end r ws n)
   unfolding take_end Sound
@@ -175,12 +175,12 @@ module _ (words : ℕ) (r : Reading) (ws : List ℕ) (long : length ws ≡ words
   first_sound s b small = go (open_outcome r.rec.head (tick_of (first_tick s.t))) refl
     where
       go : (o : Outcome) → open_outcome r.rec.head (tick_of (first_tick s.t)) ≡ o → SoundFile words (opened_by o r ws s)
-      go outcome.Accepted e =
+      go (Ok _) e =
           s_sound words (record { stage = Headed; lines = r.lines; rec = fresh_record r.rec.head (tick_of (first_tick s.t)) }) (replicate (length ws) 0)
           (length-replicate (length ws) 0 ∙ long) Joins s
           (record { agreed = open_agrees r.rec.head (tick_of (first_tick s.t)) (length ws) e; some = omega (arith, b.one); few = omega (arith, b.one) })
           small
-      go (outcome.Refused why) e = refused_sound words r ws long why (omega (arith, b.one))
+      go (Err why) e = refused_sound words r ws long why (omega (arith, b.one))
 
   few : (st : Stage) → Sound st r ws → r.lines ≤ most_lines
   unfolding Sound
@@ -191,28 +191,28 @@ module _ (words : ℕ) (r : Reading) (ws : List ℕ) (long : length ws ≡ words
   few Ended k = k.few
   few (Refused why) k = k.few
 
-  frame_sound : (st : Stage) (f : Frame) → Sound st r ws → r.stage ≡ st → Narrow f → SoundFile words (on_frame st r ws f)
+  frame_sound : (st : Stage) (f : Option Frame) → Sound st r ws → r.stage ≡ st → Narrow f → SoundFile words (on_frame st r ws f)
   unfolding Sound on_nothing on_headed on_open on_filled
-  frame_sound Nothing (HeadFrame f) k e n = head_sound words r ws long (head_in f) k
-  frame_sound Nothing (S s) k e n = refused_sound words r ws long refusal.BadOrder (few Nothing k)
-  frame_sound Nothing (End m) k e n = refused_sound words r ws long refusal.BadOrder (few Nothing k)
-  frame_sound Nothing (Clock c) k e n = refused_sound words r ws long refusal.BadLine (few Nothing k)
-  frame_sound Nothing Bad k e n = refused_sound words r ws long refusal.BadLine (few Nothing k)
-  frame_sound Headed (HeadFrame h) k e n = refused_sound words r ws long refusal.BadOrder (few Headed k)
-  frame_sound Headed (S s) k e n = first_sound s k n
-  frame_sound Headed (End m) k e n = refused_sound words r ws long refusal.BadOrder (few Headed k)
-  frame_sound Headed (Clock c) k e n = refused_sound words r ws long refusal.BadLine (few Headed k)
-  frame_sound Headed Bad k e n = refused_sound words r ws long refusal.BadLine (few Headed k)
-  frame_sound Open (HeadFrame h) k e n = refused_sound words r ws long refusal.BadOrder (few Open k)
-  frame_sound Open (S s) k e n = s_sound words r ws long (later_standing s.t r.rec.next) s k n
-  frame_sound Open (End m) k e n = end_sound words r ws long m k
-  frame_sound Open (Clock c) k e n = refused_sound words r ws long refusal.BadLine (few Open k)
-  frame_sound Open Bad k e n = refused_sound words r ws long refusal.BadLine (few Open k)
-  frame_sound Filled (HeadFrame h) k e n = refused_sound words r ws long refusal.BadOrder (few Filled k)
-  frame_sound Filled (S s) k e n = refused_sound words r ws long refusal.BadOrder (few Filled k)
-  frame_sound Filled (End m) k e n = end_sound words r ws long m k
-  frame_sound Filled (Clock c) k e n = refused_sound words r ws long refusal.BadLine (few Filled k)
-  frame_sound Filled Bad k e n = refused_sound words r ws long refusal.BadLine (few Filled k)
+  frame_sound Nothing (Some (HeadFrame f)) k e n = head_sound words r ws long (head_in f) k
+  frame_sound Nothing (Some (S s)) k e n = refused_sound words r ws long refusal.BadOrder (few Nothing k)
+  frame_sound Nothing (Some (End m)) k e n = refused_sound words r ws long refusal.BadOrder (few Nothing k)
+  frame_sound Nothing (Some (Clock c)) k e n = refused_sound words r ws long refusal.BadLine (few Nothing k)
+  frame_sound Nothing None k e n = refused_sound words r ws long refusal.BadLine (few Nothing k)
+  frame_sound Headed (Some (HeadFrame h)) k e n = refused_sound words r ws long refusal.BadOrder (few Headed k)
+  frame_sound Headed (Some (S s)) k e n = first_sound s k n
+  frame_sound Headed (Some (End m)) k e n = refused_sound words r ws long refusal.BadOrder (few Headed k)
+  frame_sound Headed (Some (Clock c)) k e n = refused_sound words r ws long refusal.BadLine (few Headed k)
+  frame_sound Headed None k e n = refused_sound words r ws long refusal.BadLine (few Headed k)
+  frame_sound Open (Some (HeadFrame h)) k e n = refused_sound words r ws long refusal.BadOrder (few Open k)
+  frame_sound Open (Some (S s)) k e n = s_sound words r ws long (later_standing s.t r.rec.next) s k n
+  frame_sound Open (Some (End m)) k e n = end_sound words r ws long m k
+  frame_sound Open (Some (Clock c)) k e n = refused_sound words r ws long refusal.BadLine (few Open k)
+  frame_sound Open None k e n = refused_sound words r ws long refusal.BadLine (few Open k)
+  frame_sound Filled (Some (HeadFrame h)) k e n = refused_sound words r ws long refusal.BadOrder (few Filled k)
+  frame_sound Filled (Some (S s)) k e n = refused_sound words r ws long refusal.BadOrder (few Filled k)
+  frame_sound Filled (Some (End m)) k e n = end_sound words r ws long m k
+  frame_sound Filled (Some (Clock c)) k e n = refused_sound words r ws long refusal.BadLine (few Filled k)
+  frame_sound Filled None k e n = refused_sound words r ws long refusal.BadLine (few Filled k)
   frame_sound Ended f k e n = refused_sound words r ws long refusal.BadLine k.few
   frame_sound (Refused why) f k e n = (subst⁻¹ (λ y. Sound y r ws) e k, long)
 

@@ -2,26 +2,27 @@
 use mathlib.Core.Path.{◌≡◌, refl, sym, ap, ap₂, subst⁻¹, ◌∙◌}
 use mathlib.Core.Bool.{Bool, true, false, not, and-eq-true_iff}
 use mathlib.Core.List.{List, [], ◌++◌}
-use Prim.Native.Nat.{ℕ, ◌+◌, ◌-◌, ◌≤◌, ◌<◌, min}
+use Prim.Native.Nat.{ℕ, ◌+◌, ◌-◌, ◌≤◌, ◌<◌}
 use native.Mathlib.Omega.{arith}
 use borrow.Author.Tests.{leb-true}
 use lib.Dec.{leb}
-use lib.ListN.{length, take, drop, length-drop, drop_of_length-le}
-use lib.Seq.{take_all, drop-drop}
+use lib.ListN.{length, take, drop, length-drop}
+use lib.Seq.{take_all, length-take-le}
 use mir.Syntax.{w64}
 use mir.Val.{Fits}
+use Rattle.std.specs.Prelude.{Option, Some, None}
 use Rattle.units.proofs.Guards.{told, refused, allowed}
 use Rattle.runs.specs.Shape.{zeros}
 use Rattle.file.specs.declared.Reading.{Reading}
 use Rattle.file.specs.declared.LineSoFar.{LineSoFar}
 use Rattle.file.specs.declared.Reader.{Reader}
-use Rattle.file.specs.Lines.{has_feed, first_line, behind_first, lines_from, rest_from}
+use Rattle.file.specs.Lines.{first_line, behind_first, feed_at, lines_from, rest_from}
 use Rattle.file.specs.Judging.{File, take_line, take_lines}
 use Rattle.file.specs.SoFar.{most_bytes, so_far, first_bytes, goes_on, proper}
 use Rattle.file.specs.Feeding.{stage_held, belongs, fed_file, fed_reader, fed_table}
 use Rattle.file.specs.Sound.{Sound}
-use Rattle.file.proofs.Cuts.{line_within, line_is, unfed, fed as has_fed, behind_is}
-use Rattle.file.proofs.SoFar.{same_line, first_bytes_lem, goes_on_lem, of_first, first_taken}
+use Rattle.file.proofs.Cuts.{line_is, behind_is, behind_less, feed_none, feed_some}
+use Rattle.file.proofs.SoFar.{same_line, first_bytes_lem, goes_on_lem, of_first}
 use Rattle.file.proofs.Cutting.{no_line, lines_first, rest_first, unfed_unended, first_line_lem}
 use Rattle.file.proofs.Sounding.{stage_is, line_sound}
 
@@ -50,27 +51,20 @@ module _ (x : Reader) (ws : List ℕ) (t : belongs x ws ≡ true) where
   pub belongs_sound : Sound x.reading.stage x.reading ws
   belongs_sound = (stage_is x.reading ws x.reading.stage).only parts.1
 
--- ---- a line that is ended, judged by its first bytes
-
-module _ (r y : Reading) (t ts : List ℕ) (l : LineSoFar) (long : length l.bytes ≡ most_bytes) (n : ℕ) (e : n ≡ min l.count most_bytes) where
-  pub first_judged : record { reading = y; words = ts } ≡ take_line (record { reading = r; words = t }) (take n l.bytes) →
-      record { reading = y; words = ts } ≡ take_line (record { reading = r; words = t }) (first_bytes l)
-  first_judged k = k ∙ ap (take_line (record { reading = r; words = t })) (first_taken l long n e)
-
 -- ---- a turn
 
--- the line so far is that of the bytes `come`
-pub record Turned (x : Reader) (words piece table : List ℕ) (reading : Reading) (line : LineSoFar) (at : ℕ) : Type 0 where
-  pub within : at ≤ length piece
+-- the line so far is that of the bytes `come`, and `left` is left of the piece
+pub record Turned (x : Reader) (words piece table : List ℕ) (reading : Reading) (line : LineSoFar) (left : List ℕ) : Type 0 where
+  pub within : length left ≤ length piece
   pub come : List ℕ
   pub so_far_lem : line ≡ so_far come
   pub same : length table ≡ length words
   pub sound : Sound reading.stage reading table
-  pub file : take_lines (record { reading = reading; words = table }) (lines_from come (drop at piece)) ≡ fed_file x words piece
-  pub rest : take most_bytes (rest_from come (drop at piece)) ≡ take most_bytes (rest_from (first_bytes x.line) piece)
+  pub file : take_lines (record { reading = reading; words = table }) (lines_from come left) ≡ fed_file x words piece
+  pub rest : take most_bytes (rest_from come left) ≡ take most_bytes (rest_from (first_bytes x.line) piece)
 
 pub turn_none : (x : Reader) (ws piece : List ℕ) (b : Bool) → b ≡ belongs x ws → not b ≡ false → length x.line.bytes ≡ most_bytes →
-    Turned x ws piece ws x.reading x.line 0
+    Turned x ws piece ws x.reading x.line piece
 turn_none x ws piece b k n l =
     let t = told b _ k n in
     record {
@@ -83,63 +77,47 @@ turn_none x ws piece b k n l =
       rest = refl;
     }
 
--- the bytes up to the next feed, at `end`
-module _ (piece : List ℕ) (at : ℕ) (n : ℕ) (e : n ≡ length (first_line (take (length piece - at) (drop at piece)))) where
-  left_all : take (length piece - at) (drop at piece) ≡ drop at piece
-  left_all = take_all (length piece - at) (drop at piece) (omega (arith, length-drop at piece))
+-- the bytes up to the next feed, and those behind it
+module _ (left : List ℕ) (at : Option ℕ) (e : at ≡ feed_at left) (n : ℕ) (is : at ≡ Some n) where
+  pub end_within : n < length left
+  end_within =
+      let found = feed_some left at e n is in
+      omega (arith, found.1, behind_less left found.0)
 
-  found : n ≡ length (first_line (drop at piece))
-  found = e ∙ ap (λ bs. length (first_line bs)) left_all
+  pub part_from : length (take n left) ≡ n
+  part_from = length-take-le n left (omega (arith, end_within))
 
-  pub end_within : at ≤ length piece → at + n ≤ length piece
-  end_within l = omega (arith, found, line_within (drop at piece), length-drop at piece)
+  pub end_fits : (piece : List ℕ) → length left ≤ length piece → Fits w64 (length piece) → Fits w64 (n + 1)
+  end_fits piece l f = record { fits = omega (arith, f.fits, end_within) }
 
-  pub end_fits : at < length piece → Fits w64 (length piece) → Fits w64 (at + n)
-  end_fits l f = record { fits = omega (arith, f.fits, end_within (omega arith)) }
+  rest_all : take (length left - (n + 1)) (drop (n + 1) left) ≡ drop (n + 1) left
+  rest_all = take_all (length left - (n + 1)) (drop (n + 1) left) (omega (arith, length-drop (n + 1) left))
 
-  -- less of the piece is left
-  pub ended_less : at + n < length piece → length piece - (at + n + 1) < length piece - at
-  ended_less l = omega arith
+  pub rest_less : length (take (length left - (n + 1)) (drop (n + 1) left)) < length left
+  rest_less = omega (arith, ap length rest_all, length-drop (n + 1) left, end_within)
 
-  pub unended_less : at < length piece → length piece ≤ at + n → length piece - (at + n) < length piece - at
-  unended_less l m = omega arith
+  part_is : take n left ≡ first_line left
+  part_is = ap (λ (k : ℕ). take k left) (feed_some left at e n is).1 ∙ line_is left
 
-  part_is : take (at + n - at) (drop at piece) ≡ first_line (drop at piece)
-  part_is =
-      let count : at + n - at ≡ length (first_line (drop at piece)) = omega (arith, found) in
-      ap (λ (k : ℕ). take k (drop at piece)) count ∙ line_is (drop at piece)
+  behind : take (length left - (n + 1)) (drop (n + 1) left) ≡ behind_first left
+  behind = let found = feed_some left at e n is in rest_all ∙ ap (λ (k : ℕ). drop (k + 1) left) found.1 ∙ behind_is left found.0
 
-  behind : at + n < length piece → (has_feed (drop at piece) ≡ true) × (drop (at + n + 1) piece ≡ behind_first (drop at piece))
-  behind l =
-      let there : has_feed (drop at piece) ≡ true = has_fed (drop at piece) (λ k. let z : ⊥ = omega (arith, found, length-drop at piece) in z) in (
-        there,
-        ap (λ (k : ℕ). drop k piece) (let k : at + n + 1 ≡ at + (length (first_line (drop at piece)) + 1) = omega (arith, found) in k) ∙
-            sym (drop-drop (length (first_line (drop at piece)) + 1) at piece) ∙
-            behind_is (drop at piece) there,
-      )
+  module _ (x : Reader) (ws piece t : List ℕ) (r : Reading) (l : LineSoFar) (w : Turned x ws piece t r l left) (m : LineSoFar) (k : m ≡ goes_on l (take n left)) where
+    ended : m ≡ so_far (w.come ++ first_line left)
+    ended = k ∙ ap₂ goes_on w.so_far_lem part_is ∙ goes_on_lem w.come (first_line left)
 
-  none_behind : length piece ≤ at + n → at ≤ length piece → has_feed (drop at piece) ≡ false
-  none_behind l m = unfed (drop at piece) (let k : length (first_line (drop at piece)) ≡ length (drop at piece) = omega (arith, found, length-drop at piece, line_within (drop at piece)) in k)
-
-  module _ (x : Reader) (ws t : List ℕ) (r : Reading) (l : LineSoFar) (w : Turned x ws piece t r l at) (m : LineSoFar)
-      (k : m ≡ goes_on l (take (at + n - at) (drop at piece))) where
-    gone_on : m ≡ so_far (w.come ++ first_line (drop at piece))
-    gone_on =
-        k ∙ ap₂ goes_on w.so_far_lem part_is ∙ goes_on_lem w.come (first_line (drop at piece))
-
-    pub turn_ended : at + n < length piece → (z : LineSoFar) → z ≡ so_far [] → (y : Reading) (ts : List ℕ) → length ts ≡ length t →
-        record { reading = y; words = ts } ≡ take_line (record { reading = r; words = t }) (first_bytes m) → Turned x ws piece ts y z (at + n + 1)
+    pub turn_ended : (line : List ℕ) → line ≡ first_bytes m → (z : LineSoFar) → z ≡ so_far [] → (y : Reading) (ts : List ℕ) → length ts ≡ length t →
+        record { reading = y; words = ts } ≡ take_line (record { reading = r; words = t }) line → Turned x ws piece ts y z (take (length left - (n + 1)) (drop (n + 1) left))
     unfolding take_lines
-    turn_ended there z none y ts s j =
-        let left = drop at piece in
-        let fed = behind there in
+    turn_ended line f z none y ts s j =
+        let there = (feed_some left at e n is).0 in
         let judged : ◌≡◌ {A = File} (record { reading = y; words = ts }) (take_line (record { reading = r; words = t }) (w.come ++ first_line left)) =
         j ∙
-        ap (take_line (record { reading = r; words = t })) (ap first_bytes gone_on ∙ first_bytes_lem (w.come ++ first_line left)) ∙
+        ap (take_line (record { reading = r; words = t })) (f ∙ ap first_bytes ended ∙ first_bytes_lem (w.come ++ first_line left)) ∙
         first_line_lem (record { reading = r; words = t }) (w.come ++ first_line left)
         in
         record {
-          within = omega arith;
+          within = omega (arith, w.within, rest_less);
           come = [];
           so_far_lem = none;
           same = s ∙ w.same;
@@ -147,58 +125,34 @@ module _ (piece : List ℕ) (at : ℕ) (n : ℕ) (e : n ≡ length (first_line (
               subst⁻¹ (λ (f : File). Sound f.reading.stage f.reading f.words) judged
               (line_sound (length t) (record { reading = r; words = t }) (w.come ++ first_line left) (w.sound, refl)).0;
           file =
-              ap₂ (λ (f : File) (bs : List ℕ). take_lines f (lines_from [] bs)) judged fed.1 ∙
-              ap (take_lines (record { reading = r; words = t })) (sym (lines_first w.come left fed.0)) ∙
+              ap₂ (λ (f : File) (bs : List ℕ). take_lines f (lines_from [] bs)) judged behind ∙
+              ap (take_lines (record { reading = r; words = t })) (sym (lines_first w.come left there)) ∙
               w.file;
-          rest = ap (λ bs. take most_bytes (rest_from [] bs)) fed.1 ∙ ap (take most_bytes) (sym (rest_first w.come left fed.0)) ∙ w.rest;
+          rest = ap (λ bs. take most_bytes (rest_from [] bs)) behind ∙ ap (take most_bytes) (sym (rest_first w.come left there)) ∙ w.rest;
         }
 
-    pub turn_unended : length piece ≤ at + n → Turned x ws piece t r m (at + n)
-    unfolding lines_from rest_from
-    turn_unended all =
-        let left = drop at piece in
-        let unfed : has_feed left ≡ false = none_behind all w.within in
-        let bare = no_line w.come left (unfed_unended left unfed) in
-        let over : drop (at + n) piece ≡ [] = drop_of_length-le piece all in
-        let whole : first_line left ≡ left =
-        sym (line_is left) ∙
-        take_all (length (first_line left)) left (let k : length left ≤ length (first_line left) = omega (arith, found, length-drop at piece) in k)
-        in
-        record {
-          within = end_within w.within;
-          come = w.come ++ first_line left;
-          so_far_lem = gone_on;
-          same = w.same;
-          sound = w.sound;
-          file =
-              ap (λ bs. take_lines (record { reading = r; words = t }) (lines_from (w.come ++ first_line left) bs)) over ∙
-              ap (take_lines (record { reading = r; words = t })) (sym bare.0) ∙
-              w.file;
-          rest =
-              ap (λ bs. take most_bytes (rest_from (w.come ++ first_line left) bs)) over ∙
-              ap (λ bs. take most_bytes (w.come ++ bs)) whole ∙
-              ap (take most_bytes) (sym bare.1) ∙
-              w.rest;
-        }
+-- ---- the piece is fed: no feed is left
 
--- ---- the piece is fed
+module _ (left : List ℕ) (at : Option ℕ) (e : at ≡ feed_at left) (none : at ≡ None) (x : Reader) (ws piece t : List ℕ) (r : Reading) (l : LineSoFar)
+    (w : Turned x ws piece t r l left) where
+  bare : (lines_from w.come left ≡ []) × (rest_from w.come left ≡ w.come ++ left)
+  bare = no_line w.come left (unfed_unended left (feed_none left at e none))
 
-module _ (x : Reader) (ws piece t : List ℕ) (r : Reading) (l : LineSoFar) (at : ℕ) (w : Turned x ws piece t r l at) (done : length piece ≤ at) where
   last_file : ◌≡◌ {A = File} (record { reading = r; words = t }) (fed_file x ws piece)
-  unfolding take_lines lines_from
-  last_file = ap (λ bs. take_lines (record { reading = r; words = t }) (lines_from w.come bs)) (sym (drop_of_length-le piece done)) ∙ w.file
-
-  last_line : l ≡ so_far (rest_from (first_bytes x.line) piece)
-  unfolding rest_from
-  last_line =
-      w.so_far_lem ∙
-      same_line w.come (rest_from (first_bytes x.line) piece)
-      (ap (λ bs. take most_bytes (rest_from w.come bs)) (sym (drop_of_length-le piece done)) ∙ w.rest)
+  unfolding take_lines
+  last_file = ap (take_lines (record { reading = r; words = t })) (sym bare.0) ∙ w.file
 
   module _ (b : Bool) (k : b ≡ belongs x ws) (n : not b ≡ false) where
-    pub turned_reader : ◌≡◌ {A = Reader} (record { reading = r; line = l }) (fed_reader x ws piece)
+    pub turned_reader : (m : LineSoFar) → m ≡ goes_on l left → ◌≡◌ {A = Reader} (record { reading = r; line = m }) (fed_reader x ws piece)
     unfolding fed_reader
-    turned_reader = allowed b _ _ _ _ k n (ap₂ (λ (f : File) (m : LineSoFar). record { reading = f.reading; line = m }) last_file last_line)
+    turned_reader m g =
+        let last_line : m ≡ so_far (rest_from (first_bytes x.line) piece) =
+        g ∙
+        ap (λ (y : LineSoFar). goes_on y left) w.so_far_lem ∙
+        goes_on_lem w.come left ∙
+        same_line (w.come ++ left) (rest_from (first_bytes x.line) piece) (ap (take most_bytes) (sym bare.1) ∙ w.rest)
+        in
+        allowed b _ _ _ _ k n (ap₂ (λ (f : File) (y : LineSoFar). record { reading = f.reading; line = y }) last_file last_line)
 
     pub turned_table : t ≡ fed_table x ws piece
     unfolding fed_table

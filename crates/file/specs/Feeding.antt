@@ -2,13 +2,12 @@
 -- wherever the bytes are cut. A reader is how far the lines are judged, and the line so far that is not ended (SoFar). A reader and a table that do
 -- not belong together are refused with 2: a feed changes neither, and the end answers 2 at line 0 and changes no word. Paper: The file (the program
 -- holds one line at a time and takes a file of any length); Record and table; Refusal numbers, 2.
-use Rattle.std.specs.Prelude.{ℕ, ◌+◌, ◌^◌, ◌≡◌, Bool, true, cond, ◌&&◌, eqb, leb}
+use Rattle.std.specs.Prelude.{Err, ℕ, ◌+◌, ◌^◌, ◌≡◌, Bool, true, cond, ◌&&◌, eqb, leb}
 use mathlib.Core.List.{List, [], ◌∷◌, flatten as all_bytes}
 use Rattle.window.specs.Limits.{head_held}
 use Rattle.agreement.specs.declared.refusal.Refusal.TheVariants.{Disagreement}
 use Rattle.agreement.specs.Agreement.{agrees}
-use Rattle.keeping.specs.declared.Outcome.{Outcome}
-use Rattle.keeping.specs.declared.Outcome.TheVariants as outcome
+use Rattle.keeping.specs.Keeping.{Outcome}
 use Rattle.keeping.specs.Keeping.{words_by}
 use Rattle.timeline.specs.Opening.{zero_record}
 use Rattle.file.specs.declared.Stage.{Stage}
@@ -66,7 +65,7 @@ finish_outcome x = stop_outcome x.reading.stage x.line.count
 
 unfoldable pub finish_answer : Reader → List ℕ → ReadAnswer
 finish_answer x ws =
-    cond (belongs x ws) (answered_by (finish_outcome x) x.reading) (record { outcome = outcome.Refused Disagreement; rec = zero_record; line = 0 })
+    cond (belongs x ws) (answered_by (finish_outcome x) x.reading) (record { outcome = Err Disagreement; rec = zero_record; line = 0 })
 
 unfoldable pub finish_table : Reader → List ℕ → List ℕ
 finish_table x ws = cond (belongs x ws) (words_by (finish_outcome x) ws (zeroed ws)) ws

@@ -1,7 +1,7 @@
 -- A file is one head, one or more S lines and one end, with nothing after. Its lines are judged in order, and the first refused line decides. A
 -- line is refused with 16 where it is no frame of a file, then with 17 where its kind or its count may not stand here, then by its fields:
 -- reading is opening plus appends. Paper: The file; Refusal numbers, and the order below the table.
-use Rattle.std.specs.Prelude.{ℕ, ◌+◌, ◌-◌, ◌^◌, Bool, cond, List, [], ◌∷◌, eqb, ltb, length, replicate}
+use Rattle.std.specs.Prelude.{Option, Some, None, Err, Ok, ℕ, ◌+◌, ◌-◌, ◌^◌, Bool, cond, List, [], ◌∷◌, eqb, ltb, length, replicate}
 use Rattle.units.specs.declared.Tick.{Tick}
 use Rattle.units.specs.declared.WideTick.{WideTick}
 use Rattle.units.specs.Limits.{tick_of}
@@ -15,14 +15,13 @@ use Rattle.agreement.specs.declared.Record.{Record}
 use Rattle.agreement.specs.declared.refusal.Refusal.{Refusal}
 use Rattle.agreement.specs.declared.refusal.Refusal.TheVariants.{OverLimit, NothingGiven, PastEnd, BadLine, BadOrder, NoEndToReach}
 use Rattle.agreement.specs.Rows.{◌unless◌else◌, ◌when◌else◌}
-use Rattle.keeping.specs.declared.Outcome.{Outcome}
-use Rattle.keeping.specs.declared.Outcome.TheVariants as outcome
+use Rattle.keeping.specs.Keeping.{Outcome}
 use Rattle.keeping.specs.Keeping.{words_keeping, words_by}
 use Rattle.keeping.specs.Append.{unspent_of, fit_outcome, appended}
 use Rattle.timeline.specs.Opening.{fresh_record, zero_record, open_outcome}
 use Rattle.timeline.specs.Appending.{unjoined◌else◌, append_outcome}
 use Rattle.frames.specs.declared.Frame.{Frame}
-use Rattle.frames.specs.declared.Frame.TheVariants.{Head as HeadFrame, S, End, Clock, Bad}
+use Rattle.frames.specs.declared.Frame.TheVariants.{Head as HeadFrame, S, End, Clock}
 use Rattle.frames.specs.declared.HeadLine.{HeadLine}
 use Rattle.frames.specs.declared.SFields.{SFields}
 use Rattle.frames.specs.Fields.{all_ones}
@@ -49,19 +48,19 @@ taken s r rec ws = record { reading = record { stage = s; lines = r.lines + 1; r
 
 -- the one or the other, by an outcome: a refused line changes no word
 unfoldable pub settled_reading : Outcome → Stage → Reading → Record → Reading
-settled_reading outcome.Accepted s r rec = record { stage = s; lines = r.lines + 1; rec = rec }
-settled_reading (outcome.Refused why) s r rec = record { stage = Refused why; lines = r.lines; rec = r.rec }
+settled_reading (Ok _) s r rec = record { stage = s; lines = r.lines + 1; rec = rec }
+settled_reading (Err why) s r rec = record { stage = Refused why; lines = r.lines; rec = r.rec }
 
 abbrev pub settled : Outcome → Stage → Reading → Record → List ℕ → List ℕ → File
 settled o s r rec new ws = record { reading = settled_reading o s r rec; words = words_by o new ws }
 
 -- what a line that may not stand here is refused with: in a file a clock line is of no known kind
-abbrev pub misplaced : Frame → Refusal
-misplaced (HeadFrame h) = BadOrder
-misplaced (S s) = BadOrder
-misplaced (End n) = BadOrder
-misplaced (Clock c) = BadLine
-misplaced Bad = BadLine
+abbrev pub misplaced : Option Frame → Refusal
+misplaced (Some (HeadFrame h)) = BadOrder
+misplaced (Some (S s)) = BadOrder
+misplaced (Some (End n)) = BadOrder
+misplaced (Some (Clock c)) = BadLine
+misplaced None = BadLine
 
 -- ---- the S lines
 
@@ -84,10 +83,10 @@ first_negative = 2 ^ 31
 -- a negative r, with the least count n: 3, 4 or 5, 18, 8, then 6, 7, 9
 unfoldable pub reach_outcome : Record → List ℕ → Standing → ℕ → ℕ → Outcome
 reach_outcome rec ws st d n =
-    outcome.Refused NothingGiven when eqb d 0 else
+    Err NothingGiven when eqb d 0 else
     unjoined st else
-    outcome.Refused NoEndToReach unless end_known rec.head else
-    outcome.Refused PastEnd unless before_end rec.head rec.next.0 else
+    Err NoEndToReach unless end_known rec.head else
+    Err PastEnd unless before_end rec.head rec.next.0 else
     fit_outcome rec ws d n
 
 -- n references of d ticks are appended, if the outcome is so
@@ -109,9 +108,9 @@ take_s r ws st s =
 
 -- the first S: opening at its tick, then what it gives joins
 abbrev pub opened_by : Outcome → Reading → List ℕ → SFields → File
-opened_by outcome.Accepted r ws s =
+opened_by (Ok _) r ws s =
     take_s (record { stage = Headed; lines = r.lines; rec = fresh_record r.rec.head (tick_of (first_tick s.t)) }) (replicate (length ws) 0) Joins s
-opened_by (outcome.Refused why) r ws s = refused why r ws
+opened_by (Err why) r ws s = refused why r ws
 
 unfoldable pub take_first_s : Reading → List ℕ → SFields → File
 take_first_s r ws s = opened_by (open_outcome r.rec.head (tick_of (first_tick s.t))) r ws s
@@ -142,36 +141,36 @@ take_end r ws n =
 
 -- ---- which frames may stand where
 
-unfoldable pub on_nothing : Reading → List ℕ → Frame → File
-on_nothing r ws (HeadFrame x) = take_head r ws (head_in x)
-on_nothing r ws (S s) = refused (misplaced (S s)) r ws
-on_nothing r ws (End n) = refused (misplaced (End n)) r ws
-on_nothing r ws (Clock c) = refused (misplaced (Clock c)) r ws
-on_nothing r ws Bad = refused (misplaced Bad) r ws
+unfoldable pub on_nothing : Reading → List ℕ → Option Frame → File
+on_nothing r ws (Some (HeadFrame x)) = take_head r ws (head_in x)
+on_nothing r ws (Some (S s)) = refused (misplaced (Some (S s))) r ws
+on_nothing r ws (Some (End n)) = refused (misplaced (Some (End n))) r ws
+on_nothing r ws (Some (Clock c)) = refused (misplaced (Some (Clock c))) r ws
+on_nothing r ws None = refused (misplaced None) r ws
 
-unfoldable pub on_headed : Reading → List ℕ → Frame → File
-on_headed r ws (HeadFrame h) = refused (misplaced (HeadFrame h)) r ws
-on_headed r ws (S s) = take_first_s r ws s
-on_headed r ws (End n) = refused (misplaced (End n)) r ws
-on_headed r ws (Clock c) = refused (misplaced (Clock c)) r ws
-on_headed r ws Bad = refused (misplaced Bad) r ws
+unfoldable pub on_headed : Reading → List ℕ → Option Frame → File
+on_headed r ws (Some (HeadFrame h)) = refused (misplaced (Some (HeadFrame h))) r ws
+on_headed r ws (Some (S s)) = take_first_s r ws s
+on_headed r ws (Some (End n)) = refused (misplaced (Some (End n))) r ws
+on_headed r ws (Some (Clock c)) = refused (misplaced (Some (Clock c))) r ws
+on_headed r ws None = refused (misplaced None) r ws
 
-unfoldable pub on_open : Reading → List ℕ → Frame → File
-on_open r ws (HeadFrame h) = refused (misplaced (HeadFrame h)) r ws
-on_open r ws (S s) = take_later_s r ws s
-on_open r ws (End n) = take_end r ws n
-on_open r ws (Clock c) = refused (misplaced (Clock c)) r ws
-on_open r ws Bad = refused (misplaced Bad) r ws
+unfoldable pub on_open : Reading → List ℕ → Option Frame → File
+on_open r ws (Some (HeadFrame h)) = refused (misplaced (Some (HeadFrame h))) r ws
+on_open r ws (Some (S s)) = take_later_s r ws s
+on_open r ws (Some (End n)) = take_end r ws n
+on_open r ws (Some (Clock c)) = refused (misplaced (Some (Clock c))) r ws
+on_open r ws None = refused (misplaced None) r ws
 
-unfoldable pub on_filled : Reading → List ℕ → Frame → File
-on_filled r ws (HeadFrame h) = refused (misplaced (HeadFrame h)) r ws
-on_filled r ws (S s) = refused (misplaced (S s)) r ws
-on_filled r ws (End n) = take_end r ws n
-on_filled r ws (Clock c) = refused (misplaced (Clock c)) r ws
-on_filled r ws Bad = refused (misplaced Bad) r ws
+unfoldable pub on_filled : Reading → List ℕ → Option Frame → File
+on_filled r ws (Some (HeadFrame h)) = refused (misplaced (Some (HeadFrame h))) r ws
+on_filled r ws (Some (S s)) = refused (misplaced (Some (S s))) r ws
+on_filled r ws (Some (End n)) = take_end r ws n
+on_filled r ws (Some (Clock c)) = refused (misplaced (Some (Clock c))) r ws
+on_filled r ws None = refused (misplaced None) r ws
 
 -- after the end every line is one too many, whatever it holds
-abbrev pub on_frame : Stage → Reading → List ℕ → Frame → File
+abbrev pub on_frame : Stage → Reading → List ℕ → Option Frame → File
 on_frame Nothing r ws f = on_nothing r ws f
 on_frame Headed r ws f = on_headed r ws f
 on_frame Open r ws f = on_open r ws f
@@ -196,20 +195,20 @@ read_lines bytes ws = take_lines (begun ws) (lines_of bytes)
 
 -- a file that stops before its end line, or with so many bytes after its last feed, is refused there
 abbrev pub stop_outcome : Stage → ℕ → Outcome
-stop_outcome Nothing n = outcome.Refused BadLine
-stop_outcome Headed n = outcome.Refused BadLine
-stop_outcome Open n = outcome.Refused BadLine
-stop_outcome Filled n = outcome.Refused BadLine
-stop_outcome Ended n = outcome.Refused BadLine unless eqb n 0 else outcome.Accepted
-stop_outcome (Refused why) n = outcome.Refused why
+stop_outcome Nothing n = Err BadLine
+stop_outcome Headed n = Err BadLine
+stop_outcome Open n = Err BadLine
+stop_outcome Filled n = Err BadLine
+stop_outcome Ended n = Err BadLine unless eqb n 0 else Ok tt
+stop_outcome (Refused why) n = Err why
 
 unfoldable pub read_outcome : List ℕ → List ℕ → Outcome
 read_outcome bytes ws = stop_outcome (read_lines bytes ws).reading.stage (length (rest_of bytes))
 
 -- accepted, the record as it is then; refused, a zero record and the line after those taken
 abbrev pub answered_by : Outcome → Reading → ReadAnswer
-answered_by outcome.Accepted r = record { outcome = outcome.Accepted; rec = r.rec; line = 0 }
-answered_by (outcome.Refused why) r = record { outcome = outcome.Refused why; rec = zero_record; line = r.lines + 1 }
+answered_by (Ok _) r = record { outcome = Ok tt; rec = r.rec; line = 0 }
+answered_by (Err why) r = record { outcome = Err why; rec = zero_record; line = r.lines + 1 }
 
 unfoldable pub read_answer : List ℕ → List ℕ → ReadAnswer
 read_answer bytes ws = answered_by (read_outcome bytes ws) (read_lines bytes ws).reading

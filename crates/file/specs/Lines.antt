@@ -1,5 +1,5 @@
 -- A file is lines, each ended by a single line feed; what stands after the last feed is a line that is not ended. Paper: The file.
-use Rattle.std.specs.Prelude.{◌≡◌, Bool, true, false, cond, List, [], ◌∷◌, ◌++◌, ℕ, eqb}
+use Rattle.std.specs.Prelude.{◌≡◌, Bool, true, false, cond, List, [], ◌∷◌, ◌++◌, ℕ, Option, Some, None, eqb, length}
 
 abbrev pub line_feed : ℕ
 line_feed = 10
@@ -19,6 +19,10 @@ first_line (b ∷ bs) = cond (eqb b line_feed) [] (b ∷ first_line bs)
 unfoldable pub behind_first : List ℕ → List ℕ
 behind_first [] = []
 behind_first (b ∷ bs) = cond (eqb b line_feed) bs (behind_first bs)
+
+-- where the first feed stands, if there is one
+unfoldable pub feed_at : List ℕ → Option ℕ
+feed_at bytes = cond (has_feed bytes) (Some (length (first_line bytes))) None
 
 -- ---- bytes cut at every feed
 

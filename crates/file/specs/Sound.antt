@@ -1,11 +1,11 @@
 -- What is asked of a reading at each stage, as named facts: the steps of the reader ask them of one another. The test `stage_held` (Feeding) says the
 -- same, by the law `Stage-is` (proofs/Sounding.antt), and the public statements cite that one.
-use Rattle.std.specs.Prelude.{ℕ, ◌+◌, ◌≤◌, ◌≡◌, true, List}
+use Rattle.std.specs.Prelude.{Option, Some, None, ℕ, ◌+◌, ◌≤◌, ◌≡◌, true, List}
 use Rattle.units.specs.Limits.{largest_span}
 use Rattle.window.specs.Limits.{head_held}
 use Rattle.agreement.specs.Agreement.{agrees}
 use Rattle.frames.specs.declared.Frame.{Frame}
-use Rattle.frames.specs.declared.Frame.TheVariants.{Head, S, End, Clock, Bad}
+use Rattle.frames.specs.declared.Frame.TheVariants.{Head, S, End, Clock}
 use Rattle.file.specs.declared.Stage.{Stage}
 use Rattle.file.specs.declared.Stage.TheVariants.{Nothing, Headed, Open, Filled, Ended, Refused}
 use Rattle.file.specs.declared.Reading.{Reading}
@@ -29,12 +29,12 @@ pub record Counted (r : Reading) : Type 0 where
   pub few : r.lines ≤ most_lines
 
 -- a duration of 32 bits, as every S line has
-abbrev pub Narrow : Frame → Type 0
-Narrow (Head h) = Unit {0}
-Narrow (S s) = s.d ≤ largest_span
-Narrow (End n) = Unit {0}
-Narrow (Clock c) = Unit {0}
-Narrow Bad = Unit {0}
+abbrev pub Narrow : Option Frame → Type 0
+Narrow (Some (Head h)) = Unit {0}
+Narrow (Some (S s)) = s.d ≤ largest_span
+Narrow (Some (End n)) = Unit {0}
+Narrow (Some (Clock c)) = Unit {0}
+Narrow None = Unit {0}
 
 unfoldable pub Sound : Stage → Reading → List ℕ → Type 0
 Sound Nothing r ws = r.lines ≡ 0

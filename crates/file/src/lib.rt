@@ -12,7 +12,8 @@ pub use feeding::{begin, feed, finish, read, settled};
 pub use lines::line_end;
 
 // Which line may come next: the head, an S line, an S line or the end, the end alone after a negative
-// r, nothing more; or no line matters, since one was refused.
+// r, nothing more; or no line matters, since one was refused. An enum and no `Result`: a reading that is
+// refused keeps its lines, which `answered_by` counts from.
 #[derive(Clone, Copy)]
 pub enum Stage {
     Nothing,
@@ -32,7 +33,8 @@ pub struct Reading {
 }
 
 // The first bytes of a line that is not ended, how many they are, and zeros behind them. One byte more
-// than the longest frame has is enough to see that a line is too long.
+// than the longest frame has is enough to see that a line is too long. An array and no `Vec`, since
+// nothing here allocates.
 #[derive(Clone, Copy)]
 pub struct LineSoFar {
     pub bytes: [u8; lines::MOST_BYTES],
@@ -47,7 +49,9 @@ pub struct Reader {
     pub line: LineSoFar,
 }
 
-// What a reading came to: the record, zero where the file is refused, and then the refused line.
+// What a reading came to: the record, zero where the file is refused, and then the refused line. All three
+// stand beside one another, since the paper has a refused reading return a zero record with the line
+// (`answered_by`).
 #[derive(Clone, Copy)]
 pub struct ReadAnswer {
     pub outcome: Outcome,

@@ -4,9 +4,8 @@
 // Rust one (rust/plain/examples/files.rs).
 #![tactic(auto)]
 
-ghost use Rattle.std.specs.Prelude.{◌≡◌, min, ◌≤◌};
+ghost use Rattle.std.specs.Prelude.{◌≤◌};
 
-use agreement::Record;
 use file::ReadAnswer;
 use std::fs::File;
 use std::io::Read;
@@ -20,15 +19,6 @@ mod show;
 use show::{put_answer, put_file};
 
 const WORDS: usize = 7;
-
-fn smaller(a: usize, b: usize) -> usize
-    ensures { result ≡ min a b }
-{
-    if a < b {
-        return a;
-    }
-    b
-}
 
 // Case B after its trim at 18,000.
 fn case_b(out: &impl Print) -> io::Result<()> {
@@ -52,11 +42,8 @@ fn read_in_pieces(bytes: &[u8], table: &mut [u64], size: usize) -> ReadAnswer
     requires { 1 ≤ size }
 {
     let mut reader = file::begin();
-    let mut i = 0;
-    while i < bytes.len() {
-        let end = i + smaller(size, bytes.len() - i);
-        reader = file::feed(reader, table, &bytes[i..end]);
-        i = end;
+    for piece in bytes.chunks(size) {
+        reader = file::feed(reader, table, piece);
     }
     file::finish(reader, table)
 }
@@ -68,13 +55,8 @@ fn judge(out: &impl Print, bytes: &[u8]) -> io::Result<()> {
     let answer = file::read(bytes, &mut table);
     put_answer(out, answer, &table)?;
     println!(out;)?;
-    let rec = answer.rec;
-    put_written(out, rec, answer.line, &table)
-}
-
-fn put_written(out: &impl Print, rec: Record, line: u64, table: &[u64]) -> io::Result<()> {
-    if line == 0 {
-        put_file(out, rec, table)?;
+    if answer.line == 0 {
+        put_file(out, answer.rec, &table)?;
     }
     Ok(())
 }

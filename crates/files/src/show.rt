@@ -1,13 +1,10 @@
 // What a reading came to and what a writing gives, printed.
 use agreement::{Record, Refusal};
 use file::ReadAnswer;
-use keeping::Outcome;
 use std::io;
-use writing::WriteAnswer;
 
 fn put_words(out: &impl Print, words: &[u64]) -> io::Result<()> {
     for word in words {
-        let word = *word;
         print!(out; " {word}")?;
     }
     Ok(())
@@ -22,22 +19,19 @@ fn put_distance(out: &impl Print, distance: u64) -> io::Result<()> {
 }
 
 fn put_accepted(out: &impl Print, rec: Record) -> io::Result<()> {
-    print!(out; " accepted {}", rec.accepted)?;
-    print!(out; " dropped {}", rec.dropped)?;
-    print!(out; " next {}", rec.next.0)?;
-    print!(out; " runs {}", rec.used)
+    print!(out; " accepted {} dropped {}", rec.accepted, rec.dropped)?;
+    print!(out; " next {} runs {}", rec.next.0, rec.used)
 }
 
 fn put_refused(out: &impl Print, why: Refusal, line: u64) -> io::Result<()> {
-    let number = why.number();
-    print!(out; " refused {number} line {line}")?;
+    print!(out; " refused {} line {line}", why.number())?;
     put_distance(out, why.distance())
 }
 
 pub(crate) fn put_answer(out: &impl Print, answer: ReadAnswer, table: &[u64]) -> io::Result<()> {
     match answer.outcome {
-        Outcome::Accepted => put_accepted(out, answer.rec)?,
-        Outcome::Refused(why) => put_refused(out, why, answer.line)?,
+        Ok(()) => put_accepted(out, answer.rec)?,
+        Err(why) => put_refused(out, why, answer.line)?,
     }
     put_words(out, table)?;
     print!(out; ";")
@@ -46,12 +40,8 @@ pub(crate) fn put_answer(out: &impl Print, answer: ReadAnswer, table: &[u64]) ->
 // The file of what is kept, or why there is none.
 pub(crate) fn put_file(out: &impl Print, rec: Record, table: &[u64]) -> io::Result<()> {
     let mut bytes = [0u8; 256];
-    let written = writing::write(rec, table, &mut bytes);
-    match written {
-        WriteAnswer::Written(length) => out.write_all(&bytes[..length]),
-        WriteAnswer::Refused(_) => {
-            let number = written.number();
-            println!(out; "refused {number}")
-        }
+    match writing::write(rec, table, &mut bytes) {
+        Ok(length) => out.write_all(&bytes[..length]),
+        Err(why) => println!(out; "refused {}", why.number()),
     }
 }

@@ -11,8 +11,9 @@ use lib.IntN.{ℤ}
 use lib.ListN.{length, drop, replicate, length-append, replicate-append-replicate}
 use lib.Seq.{drop_at}
 use Rattle.units.specs.declared.Stamp.{Stamp}
-use Rattle.units.specs.declared.full.Full.{Full}
-use Rattle.units.specs.declared.full.Full.TheVariants as named
+use Rattle.std.specs.Prelude.{Err, None, Ok, Option, Some}
+use Rattle.keeping.specs.Keeping.{Outcome}
+use Rattle.units.specs.declared.Tick.{Tick}
 use Rattle.units.specs.declared.standing.Standing.{Standing}
 use Rattle.units.specs.Full.{full_tick}
 use Rattle.units.specs.Limits.{largest_span, largest_millis, largest_number}
@@ -27,10 +28,8 @@ use Rattle.agreement.specs.declared.refusal.Refusal.TheVariants as refusal
 use Rattle.agreement.specs.Agreement.{kept, record_held, kept_right, agrees}
 use Rattle.agreement.proofs.Agreeing.{agreeing, agree_shaped}
 use Rattle.agreement.proofs.Numbers.{refusal_some}
-use Rattle.keeping.specs.declared.Outcome.{Outcome}
-use Rattle.keeping.specs.declared.Outcome.TheVariants as outcome
 use Rattle.keeping.specs.declared.Changed.{Changed}
-use Rattle.keeping.specs.Keeping.{outcome_number, changed_by, words_by}
+use Rattle.keeping.specs.Keeping.{changed_by, words_by}
 use Rattle.keeping.proofs.Outcomes.{outcome_beside, number_accepted}
 use Rattle.timeline.specs.Opening.{open_outcome}
 use Rattle.timeline.specs.Appending.{append_outcome, append_answer, append_table}
@@ -38,48 +37,42 @@ use Rattle.timeline.specs.Trimming.{trim_outcome}
 use Rattle.timeline.specs.Pair.{pair_outcome}
 use Rattle.timeline.proofs.Kept.{open_agrees, trim_passed, trim_keeps, taken, append_leaves_lem}
 use Rattle.timeline.proofs.Pairs.{pair_passed, pair_leaves_lem}
-use Rattle.lookups.specs.declared.Numbered.TheVariants.{Missing}
-use Rattle.lookups.specs.declared.Availability.TheVariants as availability
 use Rattle.lookups.specs.Available.{numbered, kept_number, number_availability, availability_in, number_available, available_in}
-use Rattle.lookups.specs.declared.AvailableAt.TheVariants as at
-use Rattle.lookups.specs.declared.stamps.FullTick.TheVariants as full
-use Rattle.lookups.specs.Numbers.{available_number, full_tick_number}
-use Rattle.lookups.specs.Stamps.{found_tick, full_tick_in}
-use Rattle.lookups.specs.declared.Touching.{Touching}
-use Rattle.lookups.specs.declared.Touching.TheVariants as touching
-use Rattle.lookups.specs.Spans.{touches, before_first, upto_last, touching_words}
+use Rattle.agreement.specs.Numbers.{answer_number}
+use Rattle.lookups.specs.Stamps.{full_tick_in}
+use Rattle.lookups.specs.Spans.{touched_words, touching_words}
 use Rattle.lookups.proofs.Numbering.{after}
 use Rattle.file.specs.declared.Reading.{Reading}
 use Rattle.file.specs.Judging.{read_outcome, read_answer, answered_by, read_lines}
 use Rattle.file.proofs.Accepted.{read_agrees}
 use Rattle.words.specs.Words.{record_words, record_of, words_of, head_with}
 use Rattle.words.specs.Lengths.{wrong_record, wrong_length}
-use Rattle.words.specs.Tells.{Tells, availability_tells, touching_tells, available_tells, full_tick_tells}
+use Rattle.words.specs.Tells.{Tells, tells_by, words_of_availability, words_of_touching, words_of_available, words_of_tick}
 use Rattle.words.proofs.Words.{record_words_lem}
 use Rattle.words.proofs.Lengths.{both_right}
 use Rattle.flonterri.specs.Face.{guarded, Changes, changes, opens, appends_by, appends, appends_stamp, appends_trim, trims, tells, tells_touching, tells_availability, Leaves, leaves, reads}
 use Rattle.flonterri.specs.Face.{tells_available, tells_full_tick}
 use Rattle.flonterri.specs.Binding.{agreed, LeavesAgreed, TellsAgreed, Binding}
-use Rattle.flonterri.proofs.Facing.{behind}
+use Rattle.flonterri.proofs.Facing.{unguarded}
 
 -- ---- the calls that change
 
 -- a call that leaves a new record and new words where it is accepted, and these agree then
 module _ (ws ts : List ℕ) (new old : Record) (left : List ℕ) where
-  leaves_agreed : (o : Outcome) → (o ≡ outcome.Accepted → agrees new left ≡ true) → LeavesAgreed (changes ws ts (changed_by o new old) (words_by o left ts))
+  leaves_agreed : (o : Outcome) → (o ≡ Ok tt → agrees new left ≡ true) → LeavesAgreed (changes ws ts (changed_by o new old) (words_by o left ts))
   unfolding changes guarded wrong_record changed_by words_by
   leaves_agreed o k = go (eqb (length ws) record_words) o k
     where
       at : Bool → Outcome → Changes
       at t o =
           cond (eqb (cond t 0 2) 0)
-          (record { number = outcome_number (changed_by o new old).outcome; words = words_of (changed_by o new old).rec; table = words_by o left ts })
+          (record { number = answer_number (changed_by o new old).outcome; words = words_of (changed_by o new old).rec; table = words_by o left ts })
           (record { number = cond t 0 2; words = ws; table = ts })
 
-      go : (t : Bool) (o : Outcome) → (o ≡ outcome.Accepted → agrees new left ≡ true) → LeavesAgreed (at t o)
+      go : (t : Bool) (o : Outcome) → (o ≡ Ok tt → agrees new left ≡ true) → LeavesAgreed (at t o)
       go false o k z = let y : ⊥ = omega arith in absurd y
-      go true outcome.Accepted k z = ap (λ r. agrees r left) (record_words_lem new) ∙ k refl
-      go true (outcome.Refused why) k z = absurd (refusal_some why z)
+      go true (Ok _) k z = ap (λ r. agrees r left) (record_words_lem new) ∙ k refl
+      go true (Err why) k z = absurd (refusal_some why z)
 
 opening_agreed : (ws ts : List ℕ) (timescale offset start duration depth first update tick : ℕ) → LeavesAgreed (opens ws ts timescale offset start duration depth first update tick)
 unfolding opens
@@ -96,7 +89,7 @@ trim_agreed ws ts c =
 -- ---- the calls that change and tell
 
 -- a call whose record and words agree where its number is 0
-tells_agreed : (ws ts out : List ℕ) (size : ℕ) (o : Outcome) (rec : Record) (new told : List ℕ) → (outcome_number o ≡ 0 → agrees rec new ≡ true) →
+tells_agreed : (ws ts out : List ℕ) (size : ℕ) (o : Outcome) (rec : Record) (new told : List ℕ) → (answer_number o ≡ 0 → agrees rec new ≡ true) →
     TellsAgreed (leaves ws ts out size o rec new told)
 unfolding leaves guarded
 tells_agreed ws ts out size o rec new told k = go (eqb (wrong_length (length ws) (length out) size) 0) refl
@@ -104,7 +97,7 @@ tells_agreed ws ts out size o rec new told k = go (eqb (wrong_length (length ws)
     at : Bool → Leaves
     at t =
         cond t
-        (record { number = outcome_number o; words = words_of rec; table = new; out = told })
+        (record { number = answer_number o; words = words_of rec; table = new; out = told })
         (record { number = wrong_length (length ws) (length out) size; words = ws; table = ts; out = out })
 
     go : (t : Bool) → eqb (wrong_length (length ws) (length out) size) 0 ≡ t → TellsAgreed (at t)
@@ -112,7 +105,7 @@ tells_agreed ws ts out size o rec new told k = go (eqb (wrong_length (length ws)
     go false e z = absurd (eqb-false (wrong_length (length ws) (length out) size) 0 e z)
 
 -- an append, by itself or with a trim behind it, whose answer and words agree where it is accepted
-appends_agreed : (ws ts out : List ℕ) (x : Changed) (new : List ℕ) → (x.outcome ≡ outcome.Accepted → agrees x.rec new ≡ true) → TellsAgreed (appends_by ws ts out x new)
+appends_agreed : (ws ts out : List ℕ) (x : Changed) (new : List ℕ) → (x.outcome ≡ Ok tt → agrees x.rec new ≡ true) → TellsAgreed (appends_by ws ts out x new)
 appends_agreed ws ts out x new k = tells_agreed ws ts out 1 _ _ _ _ (λ z. k (number_accepted x.outcome z))
 
 append_left : (ws ts out : List ℕ) (st : Standing) (d n : ℕ) → d ≤ largest_span →
@@ -141,9 +134,9 @@ pair_agreed ws ts out stamp d n c small =
     (pair_passed (record_of ws) ts st d n (record { 0 = c }) (sym (outcome_beside (pair_outcome (record_of ws) ts st d n (record { 0 = c })) _ _) ∙ z)).agreed)
 
 -- a reading whose number is 0 is accepted
-read_accepted : (o : Outcome) (r : Reading) → outcome_number (answered_by o r).outcome ≡ 0 → o ≡ outcome.Accepted
-read_accepted outcome.Accepted r z = refl
-read_accepted (outcome.Refused why) r z = absurd (refusal_some why z)
+read_accepted : (o : Outcome) (r : Reading) → answer_number (answered_by o r).outcome ≡ 0 → o ≡ Ok tt
+read_accepted (Ok _) r z = refl
+read_accepted (Err why) r z = absurd (refusal_some why z)
 
 read_agreed : (bytes ws ts out : List ℕ) → TellsAgreed (reads bytes ws ts out)
 unfolding reads read_answer
@@ -155,30 +148,24 @@ read_agreed bytes ws ts out =
 -- behind right lengths
 told_number : {A : Type 0} (ws : List ℕ) (size : ℕ) (call : List A → Tells A) (out : List A) → length ws ≡ record_words → length out ≡ size → (tells ws size call out).number ≡ (call out).number
 unfolding tells
-told_number {A} ws size call out l m = sym (ap (λ (t : Tells A). t.number) (behind _ _ (call out) 0 (both_right _ _ size l m) refl))
+told_number {A} ws size call out l m = sym (ap (λ (t : Tells A). t.number) (unguarded _ _ (call out) (both_right _ _ size l m)))
 
 -- asked from 0 up to 1, words are told or disagreement is
-touching_number_lem : (rec : Record) (ts out : List ℕ) → (touching_tells (touching_words rec ts (record { 0 = 0 }) (record { 0 = 1 })) out).number ≡ cond (agrees rec ts) 0 2
-unfolding touching_tells
-touching_number_lem rec ts out = go (agrees rec ts) (eqb (upto_last (touches 0 1) (runs_of rec.used ts)) 0)
+touching_number_lem : (rec : Record) (ts out : List ℕ) → (tells_by words_of_touching (touching_words rec ts (record { 0 = 0 }) (record { 0 = 1 })) out).number ≡ cond (agrees rec ts) 0 2
+unfolding tells_by
+touching_number_lem rec ts out = go (agrees rec ts)
   where
-    at : Bool → Touching
-    at none =
-        cond none (touching.Words 0 0)
-        (touching.Words (3 * before_first (touches 0 1) (runs_of rec.used ts)) (3 * upto_last (touches 0 1) (runs_of rec.used ts)))
-
-    go : (t none : Bool) → (touching_tells (cond t (at none) (touching.Refused refusal.Disagreement)) out).number ≡ cond t 0 2
-    go true true = refl
-    go true false = refl
-    go false none = refl
+    go : (t : Bool) → (tells_by words_of_touching (cond t (Ok (touched_words 0 1 (runs_of rec.used ts))) (Err refusal.Disagreement)) out).number ≡ cond t 0 2
+    go true = refl
+    go false = refl
 
 touching_told : (ws ts out : List ℕ) → length ws ≡ record_words → length out ≡ 2 → (tells_touching ws ts 0 1 out).number ≡ cond (agreed ws ts) 0 2
 unfolding tells_touching
 touching_told ws ts out l m =
-    told_number ws 2 (touching_tells (touching_words (record_of ws) ts (record { 0 = 0 }) (record { 0 = 1 }))) out l m ∙
+    told_number ws 2 (tells_by words_of_touching (touching_words (record_of ws) ts (record { 0 = 0 }) (record { 0 = 1 }))) out l m ∙
     touching_number_lem (record_of ws) ts out
 
-wide_missing : (rec : Record) (ts : List ℕ) (n : ℕ) → agrees rec ts ≡ true → largest_number < n → kept_number rec ts n ≡ Missing
+wide_missing : (rec : Record) (ts : List ℕ) (n : ℕ) → agrees rec ts ≡ true → largest_number < n → kept_number rec ts n ≡ None
 unfolding numbered
 wide_missing rec ts n a w =
     let f = agreeing rec ts a in
@@ -187,34 +174,34 @@ wide_missing rec ts n a w =
     after first n (kept rec ts) [] (omega (arith, f.total, f.held.dropped, f.held.numbers))
 
 wide_told : (ws ts : List ℕ) (n : ℕ) (out : List ℤ) → length ws ≡ record_words → length out ≡ 3 → agreed ws ts ≡ true → largest_number < n → (tells_availability ws ts n out).number ≡ 13
-unfolding tells_availability availability_tells
+unfolding tells_availability tells_by
 wide_told ws ts n out l m a w =
-    told_number ws 3 (availability_tells (availability_in (record_of ws) ts (record { 0 = n }))) out l m ∙
-    ap (λ t. (availability_tells (cond t (number_availability (record_of ws).head (kept_number (record_of ws) ts n)) (availability.Refused refusal.Disagreement)) out).number) a ∙
-    ap (λ x. (availability_tells (number_availability (record_of ws).head x) out).number) (wide_missing (record_of ws) ts n a w)
+    told_number ws 3 (tells_by words_of_availability (availability_in (record_of ws) ts (record { 0 = n }))) out l m ∙
+    ap (λ t. (tells_by words_of_availability (cond t (number_availability (record_of ws).head (kept_number (record_of ws) ts n)) (Err refusal.Disagreement)) out).number) a ∙
+    ap (λ x. (tells_by words_of_availability (number_availability (record_of ws).head x) out).number) (wide_missing (record_of ws) ts n a w)
 
 wide_told_at : (ws ts : List ℕ) (n c : ℕ) (out : List ℕ) → length ws ≡ record_words → length out ≡ 1 → agreed ws ts ≡ true → c ≤ largest_millis → largest_number < n →
     (tells_available ws ts n c out).number ≡ 13
-unfolding tells_available available_tells
+unfolding tells_available tells_by
 wide_told_at ws ts n c out l m a b w =
-    told_number ws 1 (available_tells (available_in (record_of ws) ts (record { 0 = n }) (record { 0 = c }))) out l m ∙
-    ap₂ (λ s t. available_number (cond s (cond t (number_available (record_of ws).head c (kept_number (record_of ws) ts n)) (at.Refused refusal.ClockLimit)) (at.Refused refusal.Disagreement)))
+    told_number ws 1 (tells_by words_of_available (available_in (record_of ws) ts (record { 0 = n }) (record { 0 = c }))) out l m ∙
+    ap₂ (λ s t. answer_number (cond s (cond t (number_available (record_of ws).head c (kept_number (record_of ws) ts n)) (Err refusal.ClockLimit)) (Err refusal.Disagreement)))
     a (le-leb c largest_millis b) ∙
-    ap (λ x. available_number (number_available (record_of ws).head c x)) (wide_missing (record_of ws) ts n a w)
+    ap (λ x. answer_number (number_available (record_of ws).head c x)) (wide_missing (record_of ws) ts n a w)
 
 -- a full tick that is asked for is told, or that there is none
-full_number : (rec : Record) (ts : List ℕ) (stamp : Stamp) → full_tick_number (full_tick_in rec ts stamp) ≡ cond (agrees rec ts) 0 2
+full_number : (rec : Record) (ts : List ℕ) (stamp : Stamp) → answer_number (full_tick_in rec ts stamp) ≡ cond (agrees rec ts) 0 2
 full_number rec ts stamp = go (agrees rec ts) (full_tick stamp rec.next)
   where
-    go : (t : Bool) (x : Full) → full_tick_number (cond t (found_tick x) (full.Refused refusal.Disagreement)) ≡ cond t 0 2
-    go true (named.At tick) = refl
-    go true named.Nowhere = refl
+    go : (t : Bool) (x : Option Tick) → answer_number (cond t (Ok x) (Err refusal.Disagreement)) ≡ cond t 0 2
+    go true (Some tick) = refl
+    go true None = refl
     go false x = refl
 
 full_told : (ws ts : List ℕ) (stamp : ℕ) (out : List ℕ) → length ws ≡ record_words → length out ≡ 2 → (tells_full_tick ws ts stamp out).number ≡ cond (agreed ws ts) 0 2
-unfolding tells_full_tick full_tick_tells
+unfolding tells_full_tick tells_by
 full_told ws ts stamp out l m =
-    told_number ws 2 (full_tick_tells (full_tick_in (record_of ws) ts (record { 0 = stamp }))) out l m ∙ full_number (record_of ws) ts (record { 0 = stamp })
+    told_number ws 2 (tells_by words_of_tick (full_tick_in (record_of ws) ts (record { 0 = stamp }))) out l m ∙ full_number (record_of ws) ts (record { 0 = stamp })
 
 -- ---- more room
 

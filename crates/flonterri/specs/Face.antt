@@ -1,13 +1,13 @@
 -- What C and Rust see of a call: the paper's refusal number, 0 where the call is accepted, and every word and byte lent to it when it returns.
 -- Lengths are judged before all else, and where one is wrong all memory stays as it came. Behind the lengths each call is the one that Rattle
 -- code makes, for the record that the words mean. In what follows ws are the record's words as they came, ts the table's. Paper: Refusal numbers.
-use Rattle.std.specs.Prelude.{ℕ, List, [], ◌∷◌, eqb, length, ℤ}
+use Rattle.std.specs.Prelude.{Result, ℕ, List, [], ◌∷◌, eqb, length, ℤ}
 use Rattle.units.specs.Standing.{tick_standing, stamp_standing}
 use Rattle.agreement.specs.Rows.{◌unless◌else◌}
 use Rattle.agreement.specs.declared.Record.{Record}
 use Rattle.keeping.specs.declared.Changed.{Changed}
-use Rattle.keeping.specs.declared.Outcome.{Outcome}
-use Rattle.keeping.specs.Keeping.{outcome_number, outcome_distance}
+use Rattle.keeping.specs.Keeping.{Outcome}
+use Rattle.agreement.specs.Numbers.{answer_distance, answer_number}
 use Rattle.timeline.specs.Opening.{open_answer, open_table}
 use Rattle.timeline.specs.Appending.{append_answer, append_table}
 use Rattle.timeline.specs.Trimming.{trim_answer, trim_table}
@@ -19,11 +19,11 @@ use Rattle.lookups.specs.Stamps.{full_tick_in}
 use Rattle.lookups.specs.Spans.{touching_words}
 use Rattle.file.specs.declared.ReadAnswer.{ReadAnswer}
 use Rattle.file.specs.Judging.{read_answer, read_table}
-use Rattle.writing.specs.declared.WriteAnswer.{WriteAnswer}
+use Rattle.agreement.specs.declared.refusal.Refusal.{Refusal}
 use Rattle.writing.specs.Writing.{write_answer, output_by, file_for}
 use Rattle.words.specs.Words.{head_with, record_of, words_of}
 use Rattle.words.specs.Lengths.{wrong_record, wrong_length}
-use Rattle.words.specs.Tells.{Tells, verdict_tells, availability_tells, touching_tells, write_tells, available_tells, full_tick_tells, edge_tells, distance_out}
+use Rattle.words.specs.Tells.{Tells, tells_by, words_of_verdict, words_of_availability, words_of_touching, words_of_length, words_of_available, words_of_tick, words_of_edge, distance_out}
 
 -- ---- guarded by lengths
 
@@ -43,7 +43,7 @@ pub record Changes : Type 0 where
 unfoldable pub changes : List ℕ → List ℕ → Changed → List ℕ → Changes
 changes ws ts x new =
     guarded (wrong_record (length ws)) (λ wrong. record { number = wrong; words = ws; table = ts })
-    (record { number = outcome_number x.outcome; words = words_of x.rec; table = new })
+    (record { number = answer_number x.outcome; words = words_of x.rec; table = new })
 
 unfoldable pub opens : List ℕ → List ℕ → ℕ → ℕ → ℕ → ℕ → ℕ → ℕ → ℕ → ℕ → Changes
 opens ws ts timescale offset start duration depth first update tick =
@@ -66,7 +66,7 @@ pub record Leaves : Type 0 where
 unfoldable pub leaves : List ℕ → List ℕ → List ℕ → ℕ → Outcome → Record → List ℕ → List ℕ → Leaves
 leaves ws ts out n o rec new told =
     guarded (wrong_length (length ws) (length out) n) (λ wrong. record { number = wrong; words = ws; table = ts; out = out })
-    (record { number = outcome_number o; words = words_of rec; table = new; out = told })
+    (record { number = answer_number o; words = words_of rec; table = new; out = told })
 
 -- an append, by itself or with a trim behind it, tells the distance where it is refused with 4 or 5, and else leaves out as it came
 abbrev pub appends_by : List ℕ → List ℕ → List ℕ → Changed → List ℕ → Leaves
@@ -94,31 +94,31 @@ unfoldable pub tells : {A : Type 0} → List ℕ → ℕ → (List A → Tells A
 tells ws n call out = guarded (wrong_length (length ws) (length out) n) (λ wrong. record { number = wrong; out = out }) (call out)
 
 unfoldable pub tells_verdict : List ℕ → List ℕ → ℕ → List ℕ → Tells ℕ
-tells_verdict ws ts c out = tells ws 5 (verdict_tells (verdict_at (record_of ws) ts (record { 0 = c }))) out
+tells_verdict ws ts c out = tells ws 5 (tells_by words_of_verdict (verdict_at (record_of ws) ts (record { 0 = c }))) out
 
 unfoldable pub tells_whole : List ℕ → List ℕ → List ℕ → Tells ℕ
-tells_whole ws ts out = tells ws 5 (verdict_tells (verdict_whole (record_of ws) ts)) out
+tells_whole ws ts out = tells ws 5 (tells_by words_of_verdict (verdict_whole (record_of ws) ts)) out
 
 unfoldable pub tells_availability : List ℕ → List ℕ → ℕ → List ℤ → Tells ℤ
-tells_availability ws ts n out = tells ws 3 (availability_tells (availability_in (record_of ws) ts (record { 0 = n }))) out
+tells_availability ws ts n out = tells ws 3 (tells_by words_of_availability (availability_in (record_of ws) ts (record { 0 = n }))) out
 
 unfoldable pub tells_available : List ℕ → List ℕ → ℕ → ℕ → List ℕ → Tells ℕ
-tells_available ws ts n c out = tells ws 1 (available_tells (available_in (record_of ws) ts (record { 0 = n }) (record { 0 = c }))) out
+tells_available ws ts n c out = tells ws 1 (tells_by words_of_available (available_in (record_of ws) ts (record { 0 = n }) (record { 0 = c }))) out
 
 unfoldable pub tells_full_tick : List ℕ → List ℕ → ℕ → List ℕ → Tells ℕ
-tells_full_tick ws ts stamp out = tells ws 2 (full_tick_tells (full_tick_in (record_of ws) ts (record { 0 = stamp }))) out
+tells_full_tick ws ts stamp out = tells ws 2 (tells_by words_of_tick (full_tick_in (record_of ws) ts (record { 0 = stamp }))) out
 
 unfoldable pub tells_touching : List ℕ → List ℕ → ℕ → ℕ → List ℕ → Tells ℕ
-tells_touching ws ts a b out = tells ws 2 (touching_tells (touching_words (record_of ws) ts (record { 0 = a }) (record { 0 = b }))) out
+tells_touching ws ts a b out = tells ws 2 (tells_by words_of_touching (touching_words (record_of ws) ts (record { 0 = a }) (record { 0 = b }))) out
 
 unfoldable pub tells_edge : List ℕ → List ℕ → List ℕ → Tells ℕ
-tells_edge ws ts out = tells ws 2 (edge_tells (covered_edge (record_of ws) ts)) out
+tells_edge ws ts out = tells ws 2 (tells_by words_of_edge (covered_edge (record_of ws) ts)) out
 
 -- ---- the file
 
 -- reading: refused, record and table are zero; out has the refused line, 0 where the file is accepted, and the distance, 0 where there is none
 abbrev pub reads_by : List ℕ → List ℕ → List ℕ → ReadAnswer → List ℕ → Leaves
-reads_by ws ts out x new = leaves ws ts out 2 x.outcome x.rec new (x.line ∷ outcome_distance x.outcome ∷ [])
+reads_by ws ts out x new = leaves ws ts out 2 x.outcome x.rec new (x.line ∷ answer_distance x.outcome ∷ [])
 
 unfoldable pub reads : List ℕ → List ℕ → List ℕ → List ℕ → Leaves
 reads bytes ws ts out = reads_by ws ts out (read_answer bytes ts) (read_table bytes ts)
@@ -130,10 +130,10 @@ pub record Writes : Type 0 where
   pub out : List ℕ
 
 -- by what the writing answers and the bytes that it leaves
-unfoldable pub writes_by : List ℕ → List ℕ → List ℕ → WriteAnswer → List ℕ → Writes
+unfoldable pub writes_by : List ℕ → List ℕ → List ℕ → Result ℕ Refusal → List ℕ → Writes
 writes_by ws bytes out x new =
     guarded (wrong_length (length ws) (length out) 1) (λ wrong. record { number = wrong; bytes = bytes; out = out })
-    (record { number = (write_tells x out).number; bytes = new; out = (write_tells x out).out })
+    (record { number = (tells_by words_of_length x out).number; bytes = new; out = (tells_by words_of_length x out).out })
 
 unfoldable pub writes : List ℕ → List ℕ → List ℕ → List ℕ → Writes
 writes ws ts bytes out =

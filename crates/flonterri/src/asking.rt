@@ -5,7 +5,7 @@ ghost use Rattle.flonterri.specs.Face.{tells_available, tells_full_tick};
 
 use lookups::{stamps, times};
 use units::{Stamp, WideMillis, WideNumber};
-use words::{record_of, tell_available, tell_full_tick, wrong_length};
+use words::{record_beside, tell};
 
 const AVAILABLE_WORDS: usize = 1;
 
@@ -23,17 +23,13 @@ pub fn flonterri_available_at(
     ensures value { result ≡ (tells_available «record».now table.now number clock out.old).number }
     ensures out_after { out.new ≡ (tells_available «record».now table.now number clock out.old).out }
 {
-    let wrong = wrong_length(record.len(), out.len(), AVAILABLE_WORDS);
-    if wrong != 0 {
-        return wrong;
+    match record_beside(record, out.len(), AVAILABLE_WORDS) {
+        Ok(rec) => tell(
+            out,
+            times::available_at(rec, table, WideNumber(number), WideMillis(clock)),
+        ),
+        Err(why) => why.number(),
     }
-    let available = times::available_at(
-        record_of(record),
-        table,
-        WideNumber(number),
-        WideMillis(clock),
-    );
-    tell_available(out, available)
 }
 
 // The full tick of a stamp by the next tick.
@@ -41,10 +37,8 @@ pub fn flonterri_full_tick(record: &[u64], table: &[u64], stamp: u32, out: &mut 
     ensures value { result ≡ (tells_full_tick «record».now table.now stamp out.old).number }
     ensures out_after { out.new ≡ (tells_full_tick «record».now table.now stamp out.old).out }
 {
-    let wrong = wrong_length(record.len(), out.len(), FULL_TICK_WORDS);
-    if wrong != 0 {
-        return wrong;
+    match record_beside(record, out.len(), FULL_TICK_WORDS) {
+        Ok(rec) => tell(out, stamps::full_tick(rec, table, Stamp(stamp))),
+        Err(why) => why.number(),
     }
-    let full = stamps::full_tick(record_of(record), table, Stamp(stamp));
-    tell_full_tick(out, full)
 }

@@ -4,7 +4,7 @@ ghost use Rattle.flonterri.specs.Face.{opens, appends, appends_stamp, appends_tr
 
 use units::{Stamp, WideMillis, WideTick};
 use window::HeadFields;
-use words::{give_appended, give_back, record_of, wrong_length, wrong_record};
+use words::{give_appended, give_back, record_beside, record_in};
 
 // Opens a timeline over a table.
 pub fn flonterri_open(
@@ -23,10 +23,6 @@ pub fn flonterri_open(
     ensures record_after { «record».new ≡ (opens «record».old table.old timescale offset start duration depth first_number «update» first_tick).words }
     ensures table_after { table.new ≡ (opens «record».old table.old timescale offset start duration depth first_number «update» first_tick).table }
 {
-    let wrong = wrong_record(record.len());
-    if wrong != 0 {
-        return wrong;
-    }
     let fields = HeadFields {
         timescale: timescale as u64,
         offset,
@@ -36,8 +32,10 @@ pub fn flonterri_open(
         first: first_number as u64,
         update,
     };
-    let changed = timeline::open(fields, WideTick(first_tick), table);
-    give_back(record, changed)
+    match record_in(record) {
+        Ok(_) => give_back(record, timeline::open(fields, WideTick(first_tick), table)),
+        Err(why) => why.number(),
+    }
 }
 
 const DISTANCE_WORDS: usize = 1;
@@ -56,13 +54,13 @@ pub fn flonterri_append(
     ensures table_after { table.new ≡ (appends «record».old table.old out.old start duration count).table }
     ensures out_after { out.new ≡ (appends «record».old table.old out.old start duration count).out }
 {
-    let wrong = wrong_length(record.len(), out.len(), DISTANCE_WORDS);
-    if wrong != 0 {
-        return wrong;
+    match record_beside(record, out.len(), DISTANCE_WORDS) {
+        Ok(rec) => {
+            let changed = timeline::append(rec, table, WideTick(start), duration, count);
+            give_appended(record, out, changed)
+        }
+        Err(why) => why.number(),
     }
-    let rec = record_of(record);
-    let changed = timeline::append(rec, table, WideTick(start), duration, count);
-    give_appended(record, out, changed)
 }
 
 // Appends references whose start is a 32-bit stamp.
@@ -79,13 +77,13 @@ pub fn flonterri_append_stamp(
     ensures table_after { table.new ≡ (appends_stamp «record».old table.old out.old stamp duration count).table }
     ensures out_after { out.new ≡ (appends_stamp «record».old table.old out.old stamp duration count).out }
 {
-    let wrong = wrong_length(record.len(), out.len(), DISTANCE_WORDS);
-    if wrong != 0 {
-        return wrong;
+    match record_beside(record, out.len(), DISTANCE_WORDS) {
+        Ok(rec) => {
+            let changed = timeline::append_stamp(rec, table, Stamp(stamp), duration, count);
+            give_appended(record, out, changed)
+        }
+        Err(why) => why.number(),
     }
-    let rec = record_of(record);
-    let changed = timeline::append_stamp(rec, table, Stamp(stamp), duration, count);
-    give_appended(record, out, changed)
 }
 
 // Raises the greatest clock and drops what is spent then.
@@ -94,13 +92,10 @@ pub fn flonterri_trim(record: &mut [u64], table: &mut [u64], clock: u64) -> u32
     ensures record_after { «record».new ≡ (trims «record».old table.old clock).words }
     ensures table_after { table.new ≡ (trims «record».old table.old clock).table }
 {
-    let wrong = wrong_record(record.len());
-    if wrong != 0 {
-        return wrong;
+    match record_in(record) {
+        Ok(rec) => give_back(record, timeline::trim(rec, table, WideMillis(clock))),
+        Err(why) => why.number(),
     }
-    let rec = record_of(record);
-    let changed = timeline::trim(rec, table, WideMillis(clock));
-    give_back(record, changed)
 }
 
 // Appends references whose start is a 32-bit stamp, and trims at a clock.
@@ -118,18 +113,18 @@ pub fn flonterri_append_trim(
     ensures table_after { table.new ≡ (appends_trim «record».old table.old out.old stamp duration count clock).table }
     ensures out_after { out.new ≡ (appends_trim «record».old table.old out.old stamp duration count clock).out }
 {
-    let wrong = wrong_length(record.len(), out.len(), DISTANCE_WORDS);
-    if wrong != 0 {
-        return wrong;
+    match record_beside(record, out.len(), DISTANCE_WORDS) {
+        Ok(rec) => {
+            let changed = timeline::append_trim(
+                rec,
+                table,
+                Stamp(stamp),
+                duration,
+                count,
+                WideMillis(clock),
+            );
+            give_appended(record, out, changed)
+        }
+        Err(why) => why.number(),
     }
-    let rec = record_of(record);
-    let changed = timeline::append_trim(
-        rec,
-        table,
-        Stamp(stamp),
-        duration,
-        count,
-        WideMillis(clock),
-    );
-    give_appended(record, out, changed)
 }

@@ -2,7 +2,7 @@
 ghost use Rattle.std.specs.Prelude.{◌≡◌};
 ghost use Rattle.flonterri.specs.Face.{reads, writes};
 
-use words::{give_read, record_of, tell_written, wrong_length};
+use words::{give_read, record_beside, tell};
 
 const LINE_WORDS: usize = 2;
 
@@ -15,12 +15,10 @@ pub fn flonterri_read(bytes: &[u8], record: &mut [u64], table: &mut [u64], out: 
     ensures table_after { table.new ≡ (reads bytes.now «record».old table.old out.old).table }
     ensures out_after { out.new ≡ (reads bytes.now «record».old table.old out.old).out }
 {
-    let wrong = wrong_length(record.len(), out.len(), LINE_WORDS);
-    if wrong != 0 {
-        return wrong;
+    match record_beside(record, out.len(), LINE_WORDS) {
+        Ok(_) => give_read(record, out, file::read(bytes, table)),
+        Err(why) => why.number(),
     }
-    let answer = file::read(bytes, table);
-    give_read(record, out, answer)
 }
 
 // Writes the whole file of what record and table keep.
@@ -29,10 +27,8 @@ pub fn flonterri_write(record: &[u64], table: &[u64], bytes: &mut [u8], out: &mu
     ensures bytes_after { bytes.new ≡ (writes «record».now table.now bytes.old out.old).bytes }
     ensures out_after { out.new ≡ (writes «record».now table.now bytes.old out.old).out }
 {
-    let wrong = wrong_length(record.len(), out.len(), LENGTH_WORDS);
-    if wrong != 0 {
-        return wrong;
+    match record_beside(record, out.len(), LENGTH_WORDS) {
+        Ok(rec) => tell(out, writing::write(rec, table, bytes)),
+        Err(why) => why.number(),
     }
-    let answer = writing::write(record_of(record), table, bytes);
-    tell_written(out, answer)
 }

@@ -6,7 +6,7 @@ ghost use Rattle.flonterri.specs.Face.{tells_verdict, tells_whole, tells_availab
 use answers::{edges, verdicts};
 use lookups::{spans, times};
 use units::{WideMillis, WideNumber, WideTick};
-use words::{record_of, tell_availability, tell_edge, tell_touching, tell_verdict, wrong_length};
+use words::{record_beside, tell};
 
 const VERDICT_WORDS: usize = 5;
 
@@ -21,12 +21,10 @@ pub fn flonterri_verdict(record: &[u64], table: &[u64], clock: u64, out: &mut [u
     ensures value { result ≡ (tells_verdict «record».now table.now clock out.old).number }
     ensures out_after { out.new ≡ (tells_verdict «record».now table.now clock out.old).out }
 {
-    let wrong = wrong_length(record.len(), out.len(), VERDICT_WORDS);
-    if wrong != 0 {
-        return wrong;
+    match record_beside(record, out.len(), VERDICT_WORDS) {
+        Ok(rec) => tell(out, verdicts::verdict(rec, table, WideMillis(clock))),
+        Err(why) => why.number(),
     }
-    let verdict = verdicts::verdict(record_of(record), table, WideMillis(clock));
-    tell_verdict(out, verdict)
 }
 
 // The verdict of the whole period.
@@ -34,12 +32,10 @@ pub fn flonterri_verdict_whole(record: &[u64], table: &[u64], out: &mut [u64]) -
     ensures value { result ≡ (tells_whole «record».now table.now out.old).number }
     ensures out_after { out.new ≡ (tells_whole «record».now table.now out.old).out }
 {
-    let wrong = wrong_length(record.len(), out.len(), VERDICT_WORDS);
-    if wrong != 0 {
-        return wrong;
+    match record_beside(record, out.len(), VERDICT_WORDS) {
+        Ok(rec) => tell(out, verdicts::verdict_whole(rec, table)),
+        Err(why) => why.number(),
     }
-    let verdict = verdicts::verdict_whole(record_of(record), table);
-    tell_verdict(out, verdict)
 }
 
 // When the reference of a number is available. A number is kept or it is not, whatever its size.
@@ -47,12 +43,10 @@ pub fn flonterri_availability(record: &[u64], table: &[u64], number: u64, out: &
     ensures value { result ≡ (tells_availability «record».now table.now number out.old).number }
     ensures out_after { out.new ≡ (tells_availability «record».now table.now number out.old).out }
 {
-    let wrong = wrong_length(record.len(), out.len(), AVAILABILITY_WORDS);
-    if wrong != 0 {
-        return wrong;
+    match record_beside(record, out.len(), AVAILABILITY_WORDS) {
+        Ok(rec) => tell(out, times::availability(rec, table, WideNumber(number))),
+        Err(why) => why.number(),
     }
-    let availability = times::availability(record_of(record), table, WideNumber(number));
-    tell_availability(out, availability)
 }
 
 // The words of the runs that touch the ticks from a up to b, that one excluded.
@@ -60,12 +54,13 @@ pub fn flonterri_touching(record: &[u64], table: &[u64], a: u64, b: u64, out: &m
     ensures value { result ≡ (tells_touching «record».now table.now a b out.old).number }
     ensures out_after { out.new ≡ (tells_touching «record».now table.now a b out.old).out }
 {
-    let wrong = wrong_length(record.len(), out.len(), TOUCHING_WORDS);
-    if wrong != 0 {
-        return wrong;
+    match record_beside(record, out.len(), TOUCHING_WORDS) {
+        Ok(rec) => tell(
+            out,
+            spans::touching_words(rec, table, WideTick(a), WideTick(b)),
+        ),
+        Err(why) => why.number(),
     }
-    let touching = spans::touching_words(record_of(record), table, WideTick(a), WideTick(b));
-    tell_touching(out, touching)
 }
 
 // The covered edge: the latest clock at which the window's upper edge has not passed the next tick.
@@ -73,10 +68,8 @@ pub fn flonterri_covered_edge(record: &[u64], table: &[u64], out: &mut [u64]) ->
     ensures value { result ≡ (tells_edge «record».now table.now out.old).number }
     ensures out_after { out.new ≡ (tells_edge «record».now table.now out.old).out }
 {
-    let wrong = wrong_length(record.len(), out.len(), EDGE_WORDS);
-    if wrong != 0 {
-        return wrong;
+    match record_beside(record, out.len(), EDGE_WORDS) {
+        Ok(rec) => tell(out, edges::covered_edge(rec, table)),
+        Err(why) => why.number(),
     }
-    let edge = edges::covered_edge(record_of(record), table);
-    tell_edge(out, edge)
 }

@@ -5,19 +5,19 @@ use mathlib.Core.Path.{◌≡◌, refl, sym, ◌∙◌, ap, ap₂}
 use mathlib.Core.Logic.{◌↔◌}
 use mathlib.Core.Bool.{Bool, true, false, false≢true}
 use mathlib.Core.List.{List, [], ◌∷◌}
-use Prim.Native.Nat.{ℕ, ◌+◌, ◌<◌}
+use Prim.Native.Nat.{ℕ, ◌+◌, ◌≤◌, ◌<◌}
 use native.Mathlib.Omega.{arith}
 use borrow.Author.Tests.{eq-eqb, eqb-true}
 use lib.Dec.{eqb}
+use Rattle.std.specs.Prelude.{Option, Some, None}
 use lib.ListN.{length, get_or, drop, length-append}
 use Rattle.hexdigits.specs.Digits.{between, is_digit, are_digits}
 use Rattle.hexdigits.proofs.Widths.{digit_at}
 use Rattle.frames.specs.Fields.{field_digits, field_values, Fit}
-use Rattle.frames.specs.Frames.{widths_of, line_widths, line_length, ended_length, longest_line, kind_of, values_of, frame_from, is_frame, Fits, line_of, ended_line, kind_at, frame_as, frame_of}
+use Rattle.frames.specs.Frames.{widths_of, line_widths, line_length, ended_length, longest_line, kind_of, values_of, frame_from, Fits, line_of, ended_line, kind_at, frame_as, frame_of}
 use Rattle.frames.specs.Language.{Language}
 use Rattle.frames.specs.declared.Frame.{Frame}
-use Rattle.frames.specs.declared.Frame.TheVariants.{Bad}
-use Rattle.frames.proofs.Cases.{not_frame, from_frame, kind_below, kind_from, length_within, values_from}
+use Rattle.frames.proofs.Cases.{from_frame, kind_below, kind_from, length_within, values_from}
 use Rattle.frames.proofs.Rows.{fit_length, length_values, length_fields, fields_are_digits, fields_read_fit, fields_written_read, fields_read_written}
 
 line_digits : (f : Frame) → are_digits (line_of f) ≡ true
@@ -54,7 +54,7 @@ module _ (f : Frame) (h : Fits f) where
   same_values = let e = read_back_lem in cc
 
   -- written then read is the same frame
-  pub frame_written_read : frame_of (line_of f) ≡ f
+  pub frame_written_read : frame_of (line_of f) ≡ Some f
   unfolding frame_of frame_as
   frame_written_read =
       simp (
@@ -64,100 +64,80 @@ module _ (f : Frame) (h : Fits f) where
       (ap (λ (k : ℕ). frame_as k (line_of f)) same_kind ∙ ap (frame_from (kind_of f)) same_values ∙ from_frame f)
 
 -- what is known of a line that is a frame
-record IsLine (line : List ℕ) : Type 0 where
+record IsLine (line : List ℕ) (f : Frame) : Type 0 where
   digits : are_digits line ≡ true
   long : length line ≡ line_length (kind_at line)
-  frame : frame_of line ≡ frame_as (kind_at line) line
+  frame : frame_as (kind_at line) line ≡ Some f
 
-is_line : (line : List ℕ) → is_frame (frame_of line) ≡ true → IsLine line
+is_line : (line : List ℕ) (f : Frame) → frame_of line ≡ Some f → IsLine line f
 unfolding frame_of
-is_line line h = go (are_digits line) refl (eqb (length line) (line_length (kind_at line))) refl
+is_line line f h = go (are_digits line) refl (eqb (length line) (line_length (kind_at line))) refl
   where
-    go : (a : Bool) → are_digits line ≡ a → (b : Bool) → eqb (length line) (line_length (kind_at line)) ≡ b → IsLine line
-    go true d true l = record { digits = d; long = eqb-true (length line) (line_length (kind_at line)) l; frame = simp (d, l) }
-    go true d false l = absurd (false≢true (simp (d, l) at h))
-    go false d b l = absurd (false≢true (simp d at h))
+    none : None ≡ Some f → IsLine line f
+    none e = absurd (cc)
+
+    go : (a : Bool) → are_digits line ≡ a → (b : Bool) → eqb (length line) (line_length (kind_at line)) ≡ b → IsLine line f
+    go true d true l = record { digits = d; long = eqb-true (length line) (line_length (kind_at line)) l; frame = simp (d, l) at h }
+    go true d false l = none (simp (d, l) at h)
+    go false d b l = none (simp d at h)
 
 -- the kind and the values that a line is read into are those of its frame
-module _ (line : List ℕ) (h : is_frame (frame_of line) ≡ true) where
+module _ (line : List ℕ) (f : Frame) (h : frame_of line ≡ Some f) where
   read_values : List ℕ
   read_values = field_values (widths_of (kind_at line)) (drop 2 line)
 
-  made : frame_of line ≡ frame_from (kind_at line) read_values
+  made : frame_from (kind_at line) read_values ≡ Some f
   unfolding frame_as read_values
-  made = (is_line line h).frame
+  made = (is_line line f h).frame
 
-  known : is_frame (frame_from (kind_at line) read_values) ≡ true
-  known = rw made at h
+  kind_read : kind_of f ≡ kind_at line
+  kind_read = kind_from (kind_at line) read_values f made
 
-  kind_read : kind_of (frame_of line) ≡ kind_at line
-  kind_read = ap kind_of made ∙ kind_from (kind_at line) read_values known
-
-  values_read : values_of (frame_of line) ≡ read_values
+  values_read : values_of f ≡ read_values
   unfolding read_values
-  values_read =
-      ap values_of made ∙
-      values_from (kind_at line) read_values known (length_values (widths_of (kind_at line)) (drop 2 line))
+  values_read = values_from (kind_at line) read_values f made (length_values (widths_of (kind_at line)) (drop 2 line))
 
-  line_again : line_of (frame_of line) ≡ line
-  unfolding line_of field_values read_values
-  line_again =
-      ap₂ (λ (k : ℕ) (vs : List ℕ). field_digits (line_widths k) (k ∷ vs)) kind_read values_read ∙
-      fields_read_written (line_widths (kind_at line)) line (is_line line h).digits (is_line line h).long
+  length_read : length line ≤ longest_line
+  length_read = omega (arith, (is_line line f h).long, length_within (kind_at line) read_values f made)
 
-  fits_again : Fits (frame_of line)
-  unfolding read_values
-  fits_again =
-      record {
-        known = h;
-        fields = rw (kind_read, values_read) (fields_read_fit (widths_of (kind_at line)) (drop 2 line));
-      }
-
-module _ (line : List ℕ) (f : Frame) (e : frame_of line ≡ f) (k : is_frame f ≡ true) where
   -- read then written is the same line
   pub line_read_written : line_of f ≡ line
-  line_read_written = ap line_of (sym e) ∙ line_again line (ap is_frame e ∙ k)
+  unfolding line_of field_values read_values
+  line_read_written =
+      ap₂ (λ (k : ℕ) (vs : List ℕ). field_digits (line_widths k) (k ∷ vs)) kind_read values_read ∙
+      fields_read_written (line_widths (kind_at line)) line (is_line line f h).digits (is_line line f h).long
 
   -- and the frame fits
   pub read_fits : Fits f
-  read_fits = rw e at (fits_again line (ap is_frame e ∙ k))
+  unfolding read_values
+  read_fits = record { fields = rw (kind_read, values_read) (fields_read_fit (widths_of (kind_at line)) (drop 2 line)) }
 
--- a line is the frame f exactly if f fits and the line is f's
-pub exactly : (line : List ℕ) (f : Frame) → ((is_frame f ≡ true) × (frame_of line ≡ f)) ↔ (Fits f × (line_of f ≡ line))
-exactly line f = (
-  (λ r. (read_fits line f r.1 r.0, line_read_written line f r.1 r.0)),
-  (λ r. (r.0.known, ap frame_of (sym r.1) ∙ frame_written_read f r.0)),
-)
+-- a line is the frame f exactly if f fits and this is its line
+pub exactly : (line : List ℕ) (f : Frame) → (frame_of line ≡ Some f) ↔ (Fits f × (line_of f ≡ line))
+exactly line f = (λ h. (read_fits line f h, line_read_written line f h), λ w. ap frame_of (sym w.1) ∙ frame_written_read f w.0)
 
--- a line longer than every kind's is bad
-pub too_long_lem : (line : List ℕ) → longest_line < length line → frame_of line ≡ Bad
-too_long_lem line h = go (is_frame (frame_of line)) refl
+-- a line is no frame exactly if no frame can be read from it
+none_read : (line : List ℕ) → ((f : Frame) → frame_of line ≡ Some f → ⊥) → frame_of line ≡ None
+none_read line n = go (frame_of line) refl
   where
-    go : (t : Bool) → is_frame (frame_of line) ≡ t → frame_of line ≡ Bad
-    go true e =
-        let z : ⊥ = omega (arith, (is_line line e).long, length_within (kind_at line) (read_values line e) (known line e)) in
-        absurd z
-    go false e = not_frame (frame_of line) e
+    go : (o : Option Frame) → frame_of line ≡ o → frame_of line ≡ None
+    go (Some f) e = absurd (n f e)
+    go None e = e
 
--- a line is bad exactly if it is no fitting frame's
-pub bad_exactly : (line : List ℕ) → (frame_of line ≡ Bad) ↔ ((f : Frame) → Fits f → line_of f ≡ line → ⊥)
-bad_exactly line = (none, only)
+-- a line longer than every kind's is no frame
+pub too_long_lem : (line : List ℕ) → longest_line < length line → frame_of line ≡ None
+too_long_lem line h = none_read line (λ f e. omega (arith, length_read line f e))
+
+-- a line is no frame exactly if it is no fitting frame's
+pub bad_exactly : (line : List ℕ) → (frame_of line ≡ None) ↔ ((f : Frame) → Fits f → line_of f ≡ line → ⊥)
+bad_exactly line = (only, λ n. none_read line (λ f e. n f (read_fits line f e) (line_read_written line f e)))
   where
-    none : frame_of line ≡ Bad → (f : Frame) → Fits f → line_of f ≡ line → ⊥
-    none e f h l =
-        false≢true
-        (sym (ap is_frame e) ∙ ap is_frame (ap frame_of (sym l) ∙ frame_written_read f h) ∙ h.known)
-
-    by : (t : Bool) → is_frame (frame_of line) ≡ t → ((f : Frame) → Fits f → line_of f ≡ line → ⊥) → frame_of line ≡ Bad
-    by true e n = absurd (n (frame_of line) (fits_again line e) (line_again line e))
-    by false e n = not_frame (frame_of line) e
-
-    only : ((f : Frame) → Fits f → line_of f ≡ line → ⊥) → frame_of line ≡ Bad
-    only n = by (is_frame (frame_of line)) refl n
+    only : frame_of line ≡ None → (f : Frame) → Fits f → line_of f ≡ line → ⊥
+    only e f h l = let s : frame_of line ≡ Some f = (exactly line f).1 (h, l) in cc
 
 -- two fitting frames with one line are equal
 pub one_line : (f g : Frame) → Fits f → Fits g → line_of f ≡ line_of g → f ≡ g
-one_line f g h k e = sym (frame_written_read f h) ∙ ap frame_of e ∙ frame_written_read g k
+one_line f g h k e = let s : Some f ≡ Some g = sym (frame_written_read f h) ∙ ap frame_of e ∙ frame_written_read g k in cc
 
 -- ---- the statement
 

@@ -1,12 +1,12 @@
 -- A line put into an output: the fields of a frame, its kind in front, make its line. And a head's by whether it has its update period.
-use mathlib.Core.Path.{◌≡◌, sym, ap, subst, subst⁻¹, ◌∙◌}
+use mathlib.Core.Path.{◌≡◌, sym, subst, subst⁻¹, ◌∙◌}
 use mathlib.Core.List.{List, [], ◌∷◌, ◌++◌, append_assoc}
 use Prim.Native.Nat.{ℕ, ◌<◌}
 use lib.ListN.{drop}
 use Rattle.frames.specs.Fields.{field_digits}
-use Rattle.frames.specs.Frames.{line_widths, line_length, ended_length, head_kind, update_values, update_in, fields_in, kind_of, values_of, line_of, ended_line, Written}
+use Rattle.frames.specs.Frames.{line_widths, line_length, ended_length, head_kind, update_values, kind_of, values_of, line_of, ended_line, Written}
 use Rattle.frames.specs.declared.HeadLine.{HeadLine}
-use Rattle.frames.specs.declared.UpdateField.{UpdateField}
+use Rattle.std.specs.Prelude.{Option}
 use Rattle.frames.specs.declared.Frame.{Frame}
 use Rattle.frames.specs.declared.Frame.TheVariants.{Head}
 
@@ -22,7 +22,7 @@ line_put f before after n e =
       bytes = e.1 ∙ sym (append_assoc (line_of f) (10 ∷ []) (drop (ended_length (kind_of f)) before));
     }
 
-module _ (h : HeadLine) (u : UpdateField) (e : h.update ≡ u) where
+module _ (h : HeadLine) (u : Option ℕ) (e : h.update ≡ u) where
   pub head_room : (n : ℕ) → line_length (head_kind h.update) < n → line_length (head_kind u) < n
   head_room n l = subst (λ x. line_length (head_kind x) < n) e l
 
@@ -31,26 +31,3 @@ module _ (h : HeadLine) (u : UpdateField) (e : h.update ≡ u) where
   head_put before after n p =
       line_put (Head h) before after n
       (subst⁻¹ (λ x. Put (head_kind x) (h.timescale ∷ h.offset ∷ h.start ∷ h.duration ∷ h.depth ∷ h.first ∷ update_values x) before after n) e p)
-
-  -- the fields of a head line, by its update period
-  pub head_fields : record {
-    timescale = h.timescale;
-    offset = h.offset;
-    start = h.start;
-    duration = h.duration;
-    depth = h.depth;
-    first = h.first;
-    update = update_in u;
-  } ≡ fields_in h
-  head_fields =
-      ap
-      (λ x. record {
-        timescale = h.timescale;
-        offset = h.offset;
-        start = h.start;
-        duration = h.duration;
-        depth = h.depth;
-        first = h.first;
-        update = update_in x;
-      })
-      (sym e)

@@ -1,9 +1,9 @@
-// The kinds of line: the row of widths of each, the byte of the kind first, and how the values of a
-// line make a frame.
-ghost use Rattle.std.specs.Prelude.{◌≡◌, ◌≤◌, length, drop};
-ghost use Rattle.frames.specs.Frames.{head_from, line_length, frame_as};
+// The kinds of line: the number and the row of widths of each, the byte of the kind first, and how the
+// values of a line make a frame.
+ghost use Rattle.std.specs.Prelude.{◌≡◌, length};
+ghost use Rattle.frames.specs.Frames.{frame_as, kind_number, kind_numbered, line_length};
 
-use crate::{Frame, HeadLine, SFields, UpdateField, fields};
+use crate::{Frame, HeadLine, SFields, fields};
 use units::{WideMillis, WideTick};
 
 // A head with its update period, and one without.
@@ -32,89 +32,119 @@ pub(crate) const CLOCK_DIGITS: usize = 2 * (1 + 8);
 // No line of a known kind is longer than a head with its update period.
 pub const LONGEST_LINE: usize = HEAD_DIGITS;
 
-// Inner: the line has as many digits as its kind asks, which `read_line` tests. The frame that its
-// values make.
-pub(crate) fn frame_of_kind(kind: u64, line: &[u8]) -> Frame
-    requires { length line.now ≡ line_length kind }
-    ensures { result ≡ frame_as kind line.now }
-{
-    match kind {
-        1 => read_older_head(line),
-        2 => read_s(line),
-        3 => read_end(line),
-        4 => read_clock(line),
-        5 => read_head(line),
-        _ => Frame::Bad,
+// A kind of line; an older head is one without an update period.
+#[derive(Clone, Copy)]
+pub(crate) enum Kind {
+    OlderHead,
+    S,
+    End,
+    Clock,
+    Head,
+}
+
+impl Kind {
+    // The kind that a line's first byte names.
+    pub(crate) fn of(number: u64) -> Option<Kind>
+        ensures { result ≡ kind_numbered number }
+    {
+        match number {
+            1 => Some(Kind::OlderHead),
+            2 => Some(Kind::S),
+            3 => Some(Kind::End),
+            4 => Some(Kind::Clock),
+            5 => Some(Kind::Head),
+            _ => None,
+        }
+    }
+
+    // That byte.
+    pub(crate) fn number(self) -> u64
+        ensures { result ≡ kind_number self }
+    {
+        match self {
+            Kind::OlderHead => 1,
+            Kind::S => 2,
+            Kind::End => 3,
+            Kind::Clock => 4,
+            Kind::Head => 5,
+        }
+    }
+
+    // How many digits a line of this kind has.
+    pub(crate) fn digits(self) -> usize
+        ensures { result ≡ line_length (kind_number self) }
+    {
+        match self {
+            Kind::OlderHead => OLDER_DIGITS,
+            Kind::S => S_DIGITS,
+            Kind::End => END_DIGITS,
+            Kind::Clock => CLOCK_DIGITS,
+            Kind::Head => HEAD_DIGITS,
+        }
+    }
+
+    // Inner: the line has as many digits as its kind asks, which `read_line` tests. The frame that its
+    // values make.
+    pub(crate) fn frame(self, line: &[u8]) -> Frame
+        requires { length line.now ≡ line_length (kind_number self) }
+        ensures { Some result ≡ frame_as (kind_number self) line.now }
+    {
+        match self {
+            Kind::OlderHead => Frame::Head(older_head(line)),
+            Kind::S => {
+                let [_, t, d, r] = fields::read_fields(line, &S_WIDTHS);
+                let t = WideTick(t);
+                Frame::S(SFields { t, d, r })
+            }
+            Kind::End => {
+                let [_, count] = fields::read_fields(line, &END_WIDTHS);
+                Frame::End(count)
+            }
+            Kind::Clock => {
+                let [_, clock] = fields::read_fields(line, &CLOCK_WIDTHS);
+                Frame::Clock(WideMillis(clock))
+            }
+            Kind::Head => Frame::Head(head(line)),
+        }
     }
 }
 
-// Inner: the values are those of a head line, with that of the kind in front.
-fn head_from(v: &[u64], update: UpdateField) -> Frame
-    requires { 7 ≤ length v.now }
-    ensures { result ≡ head_from (drop 1 v.now) update }
-{
-    Frame::Head(HeadLine {
-        timescale: v[1],
-        offset: v[2],
-        start: v[3],
-        duration: v[4],
-        depth: v[5],
-        first: v[6],
-        update,
-    })
-}
-
-// Inner: the line has the digits of a head line without an update period, which is tested above.
-fn read_older_head(line: &[u8]) -> Frame
+// Inner, as below, for a head without its update period.
+fn older_head(line: &[u8]) -> HeadLine
     requires { length line.now ≡ line_length 1 }
-    ensures { result ≡ frame_as 1 line.now }
+    ensures { Some (Frame.Head result) ≡ frame_as 1 line.now }
 {
-    let mut v = [0u64; 7];
-    fields::read_fields(line, &OLDER_WIDTHS, &mut v);
-    head_from(&v, UpdateField::Absent)
+    let [_, timescale, offset, start, duration, depth, first] = fields::read_fields(
+        line,
+        &OLDER_WIDTHS,
+    );
+    HeadLine {
+        timescale,
+        offset,
+        start,
+        duration,
+        depth,
+        first,
+        update: None,
+    }
 }
 
-// Inner: the line has the digits of a head line, which is tested above.
-fn read_head(line: &[u8]) -> Frame
+// Inner: the line has the digits of a head. What its values make.
+fn head(line: &[u8]) -> HeadLine
     requires { length line.now ≡ line_length 5 }
-    ensures { result ≡ frame_as 5 line.now }
+    ensures { Some (Frame.Head result) ≡ frame_as 5 line.now }
 {
-    let mut v = [0u64; 8];
-    fields::read_fields(line, &HEAD_WIDTHS, &mut v);
-    let update = v[7];
-    head_from(&v, UpdateField::Of(update))
-}
-
-// Inner: the line has the digits of an S line, which is tested above.
-fn read_s(line: &[u8]) -> Frame
-    requires { length line.now ≡ line_length 2 }
-    ensures { result ≡ frame_as 2 line.now }
-{
-    let mut v = [0u64; 4];
-    fields::read_fields(line, &S_WIDTHS, &mut v);
-    Frame::S(SFields {
-        t: WideTick(v[1]),
-        d: v[2],
-        r: v[3],
-    })
-}
-
-// Inner: the line has the digits of an end line, which is tested above.
-fn read_end(line: &[u8]) -> Frame
-    requires { length line.now ≡ line_length 3 }
-    ensures { result ≡ frame_as 3 line.now }
-{
-    let mut v = [0u64; 2];
-    fields::read_fields(line, &END_WIDTHS, &mut v);
-    Frame::End(v[1])
-}
-
-// Inner: the line has the digits of a clock line, which is tested above.
-fn read_clock(line: &[u8]) -> Frame
-    requires { length line.now ≡ line_length 4 }
-    ensures { result ≡ frame_as 4 line.now }
-{
-    let mut v = [0u64; 2];
-    fields::read_fields(line, &CLOCK_WIDTHS, &mut v);
-    Frame::Clock(WideMillis(v[1]))
+    let [_, timescale, offset, start, duration, depth, first, update] = fields::read_fields(
+        line,
+        &HEAD_WIDTHS,
+    );
+    HeadLine {
+        timescale,
+        offset,
+        start,
+        duration,
+        depth,
+        first,
+        update: Some(update),
+    }
 }

@@ -7,6 +7,7 @@ ghost use Rattle.frames.specs.Frames.{Fits, Written, fields_in, frame_of, head_k
 mod fields;
 mod kinds;
 
+use kinds::Kind;
 pub use kinds::{END_DIGITS, HEAD_DIGITS, LONGEST_LINE, S_DIGITS};
 use units::{WideMillis, WideTick};
 use window::HeadFields;
@@ -25,14 +26,7 @@ impl SFields {
     pub const ABSENT: u64 = 18_446_744_073_709_551_615;
 }
 
-// The update period of a head line: a line of kind 01 has none.
-#[derive(Clone, Copy)]
-pub enum UpdateField {
-    Absent,
-    Of(u64),
-}
-
-// The fields of a head line as they stand in the file.
+// The fields of a head line as they stand in the file: a line of kind 01 has no update period.
 #[derive(Clone, Copy)]
 pub struct HeadLine {
     pub timescale: u64,
@@ -41,34 +35,31 @@ pub struct HeadLine {
     pub duration: u64,
     pub depth: u64,
     pub first: u64,
-    pub update: UpdateField,
+    pub update: Option<u64>,
 }
 
-impl HeadLine {
-    // The fields of the head that this line has: an update period that is absent is 0.
-    pub fn fields(self) -> HeadFields
-        ensures { result ≡ fields_in self }
-    {
-        let field = self.update;
-        let update = match field {
-            UpdateField::Absent => 0,
-            UpdateField::Of(update) => update,
-        };
+// The fields of the head that a line has: an update period that is absent is 0.
+impl From<HeadLine> for HeadFields {
+    ghost from_gives = { λ line fields. fields ≡ fields_in line };
+
+    fn from(line: HeadLine) -> HeadFields {
         HeadFields {
-            timescale: self.timescale,
-            offset: self.offset,
-            start: self.start,
-            duration: self.duration,
-            depth: self.depth,
-            first: self.first,
-            update,
+            timescale: line.timescale,
+            offset: line.offset,
+            start: line.start,
+            duration: line.duration,
+            depth: line.depth,
+            first: line.first,
+            update: line.update.unwrap_or(0),
         }
     }
+}
 
-    // The line that is written of the fields of a head: it always has the update period.
-    pub fn of(fields: HeadFields) -> HeadLine
-        ensures { result ≡ head_line fields }
-    {
+// The line that is written of the fields of a head: it always has the update period.
+impl From<HeadFields> for HeadLine {
+    ghost from_gives = { λ fields line. line ≡ head_line fields };
+
+    fn from(fields: HeadFields) -> HeadLine {
         HeadLine {
             timescale: fields.timescale,
             offset: fields.offset,
@@ -76,50 +67,39 @@ impl HeadLine {
             duration: fields.duration,
             depth: fields.depth,
             first: fields.first,
-            update: UpdateField::Of(fields.update),
+            update: Some(fields.update),
         }
     }
 }
 
-// A frame by its kind, or the mark of a line that is none. Its fields are any that its widths hold.
+// A frame by its kind. Its fields are any that its widths hold.
 #[derive(Clone, Copy)]
 pub enum Frame {
     Head(HeadLine),
     S(SFields),
     End(u64),
     Clock(WideMillis),
-    Bad,
 }
 
 // How many digits a line of a kind has; of an unknown kind, those of the kind alone.
 pub fn line_length(kind: u64) -> usize
     ensures { result ≡ line_length kind }
 {
-    match kind {
-        1 => kinds::OLDER_DIGITS,
-        2 => kinds::S_DIGITS,
-        3 => kinds::END_DIGITS,
-        4 => kinds::CLOCK_DIGITS,
-        5 => kinds::HEAD_DIGITS,
-        _ => 2,
-    }
+    Kind::of(kind).map_or(2, |known| known.digits())
 }
 
-// What frame a line is, whatever its bytes.
-pub fn read_line(line: &[u8]) -> Frame
+// What frame a line is, whatever its bytes; none where it is no frame.
+pub fn read_line(line: &[u8]) -> Option<Frame>
     ensures { result ≡ frame_of line.now }
 {
     if !hexdigits::are_digits(line) {
-        return Frame::Bad;
+        return None;
     }
-    if line.len() < 2 {
-        return Frame::Bad;
+    let kind = Kind::of(hexdigits::number(line.get(..2)?))?;
+    if line.len() != kind.digits() {
+        return None;
     }
-    let kind = hexdigits::number(&line[0..2]);
-    if line.len() != line_length(kind) {
-        return Frame::Bad;
-    }
-    kinds::frame_of_kind(kind, line)
+    Some(kind.frame(line))
 }
 
 // Inner, as below: the line of a head, of the kind that its update period asks for.
@@ -127,30 +107,25 @@ fn write_head(out: &mut [u8], h: HeadLine) -> usize
     requires { line_length (head_kind h.update) < length out.old }
     ensures { Written (Frame.Head h) out.old out.new result }
 {
-    let field = h.update;
-    match field {
-        UpdateField::Absent => {
-            let values = [
-                1,
-                h.timescale,
-                h.offset,
-                h.start,
-                h.duration,
-                h.depth,
-                h.first,
-            ];
+    let HeadLine {
+        timescale,
+        offset,
+        start,
+        duration,
+        depth,
+        first,
+        update,
+    } = h;
+    match update {
+        None => {
+            let kind = Kind::OlderHead.number();
+            let values = [kind, timescale, offset, start, duration, depth, first];
             fields::write_fields(out, &kinds::OLDER_WIDTHS, &values)
         }
-        UpdateField::Of(update) => {
+        Some(update) => {
+            let kind = Kind::Head.number();
             let values = [
-                5,
-                h.timescale,
-                h.offset,
-                h.start,
-                h.duration,
-                h.depth,
-                h.first,
-                update,
+                kind, timescale, offset, start, duration, depth, first, update,
             ];
             fields::write_fields(out, &kinds::HEAD_WIDTHS, &values)
         }
@@ -166,17 +141,16 @@ pub fn write_line(out: &mut [u8], frame: Frame) -> usize
     match frame {
         Frame::Head(h) => write_head(out, h),
         Frame::S(s) => {
-            let values = [2, s.t.0, s.d, s.r];
+            let values = [Kind::S.number(), s.t.0, s.d, s.r];
             fields::write_fields(out, &kinds::S_WIDTHS, &values)
         }
         Frame::End(count) => {
-            let values = [3, count];
+            let values = [Kind::End.number(), count];
             fields::write_fields(out, &kinds::END_WIDTHS, &values)
         }
         Frame::Clock(clock) => {
-            let values = [4, clock.0];
+            let values = [Kind::Clock.number(), clock.0];
             fields::write_fields(out, &kinds::CLOCK_WIDTHS, &values)
         }
-        Frame::Bad => 0,
     }
 }

@@ -9,7 +9,8 @@ use agreement::Record;
 use keeping::Outcome;
 use units::{Stamp, WideMillis};
 
-// What came of the two, and the record to go on with.
+// What came of the two, and the record to go on with: both are told, the second whatever the first was,
+// so that neither is an error of the whole.
 #[derive(Clone, Copy)]
 pub struct Followed {
     pub appended: Outcome,
@@ -31,12 +32,9 @@ pub fn follow(
 {
     let first = append_stamp(rec, table, stamp, duration, count);
     let second = trim(first.rec, table, clock);
-    let appended = first.outcome;
-    let trimmed = second.outcome;
-    let rec = second.rec;
     Followed {
-        appended,
-        trimmed,
-        rec,
+        appended: first.outcome,
+        trimmed: second.outcome,
+        rec: second.rec,
     }
 }

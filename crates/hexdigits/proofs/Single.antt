@@ -8,18 +8,14 @@ use borrow.Author.Tests.{lt-ltb, le-ltb, le-leb, lt-leb, ltb-true, ltb-false, le
 use Rattle.hexdigits.specs.Digits.{between, is_decimal, is_letter, is_digit, value_of, digit_of}
 
 module _ (low high b : ℕ) where
-  pub between_from : low ≤ b → between low high b ≡ leb b high
+  between_from : low ≤ b → between low high b ≡ leb b high
   unfolding between
   between_from l = simp (le-leb low b l)
 
-  pub between_in : low ≤ b → b ≤ high → between low high b ≡ true
+  between_in : low ≤ b → b ≤ high → between low high b ≡ true
   between_in l h = between_from l ∙ le-leb b high h
 
-  pub between_under : b < low → between low high b ≡ false
-  unfolding between
-  between_under l = simp (lt-leb low b l)
-
-  pub between_over : high < b → between low high b ≡ false
+  between_over : high < b → between low high b ≡ false
   unfolding between
   between_over h = simp (lt-leb b high h) (and-false (leb low b))
 
@@ -32,11 +28,11 @@ module _ (low high b : ℕ) where
   between_high e = leb-true b high ((and-eq-true_iff (leb low b) (leb b high)).0 e).1
 
 module _ (b : ℕ) where
-  pub value_decimal : 48 ≤ b → b ≤ 57 → value_of b ≡ b - 48
+  value_decimal : 48 ≤ b → b ≤ 57 → value_of b ≡ b - 48
   unfolding value_of
   value_decimal l h = simp (between_in 48 57 b l h)
 
-  pub value_letter : 97 ≤ b → b ≤ 102 → value_of b ≡ b - 87
+  value_letter : 97 ≤ b → b ≤ 102 → value_of b ≡ b - 87
   unfolding value_of
   value_letter l h = simp (between_over 48 57 b (omega arith), between_in 97 102 b l h)
 
@@ -44,7 +40,7 @@ module _ (b : ℕ) where
   unfolding value_of
   value_other d l = simp (d, l)
 
-  pub value_none : is_digit b ≡ false → value_of b ≡ 0
+  value_none : is_digit b ≡ false → value_of b ≡ 0
   unfolding is_digit
   value_none e = go (is_decimal b) refl (is_letter b) refl
     where
@@ -54,7 +50,7 @@ module _ (b : ℕ) where
       go false d false l = value_other d l
 
   -- a digit is a decimal one or a letter
-  pub by_digit : {P : Type 0} → is_digit b ≡ true → (48 ≤ b → b ≤ 57 → P) → (97 ≤ b → b ≤ 102 → P) → P
+  by_digit : {P : Type 0} → is_digit b ≡ true → (48 ≤ b → b ≤ 57 → P) → (97 ≤ b → b ≤ 102 → P) → P
   unfolding is_digit
   by_digit {P} e p q = go (is_decimal b) refl (is_letter b) refl
     where

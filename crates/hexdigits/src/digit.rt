@@ -3,41 +3,33 @@ ghost use Rattle.std.specs.Prelude.{◌≡◌, ◌<◌};
 ghost use Rattle.hexdigits.specs.Digits.{is_digit, value_of, digit_of};
 
 // '0' to '9' or 'a' to 'f'.
+#[tactic(auto, unfolding(crate::specs::Digits::is_digit, crate::specs::Digits::between))]
 pub(crate) fn is_digit(b: u8) -> bool
     ensures { result ≡ is_digit b }
 {
-    if b < b'0' {
-        return false;
-    }
-    if b <= b'9' {
-        return true;
-    }
-    if b < b'a' {
-        return false;
-    }
-    b <= b'f'
+    matches!(b, b'0'..=b'9' | b'a'..=b'f')
 }
 
 // What a digit means; a byte that is none counts 0.
+#[tactic(auto, unfolding(crate::specs::Digits::value_of, crate::specs::Digits::between))]
 pub(crate) fn value(b: u8) -> u64
     ensures { result ≡ value_of b }
 {
-    if !is_digit(b) {
-        return 0;
+    match b {
+        b'0'..=b'9' => (b - b'0') as u64,
+        b'a'..=b'f' => (b - b'a') as u64 + 10,
+        _ => 0,
     }
-    if b <= b'9' {
-        return (b - b'0') as u64;
-    }
-    (b - b'a') as u64 + 10
 }
 
 // Inner: sixteen and more have no digit. The digit that means v.
+#[tactic(auto, unfolding(crate::specs::Digits::digit_of))]
 pub(crate) fn digit_of(v: u64) -> u8
     requires { v < 16 }
     ensures { result ≡ digit_of v }
 {
-    if v < 10 {
-        return b'0' + v as u8;
+    match v {
+        0..=9 => b'0' + v as u8,
+        _ => b'a' + (v - 10) as u8,
     }
-    b'a' + (v - 10) as u8
 }

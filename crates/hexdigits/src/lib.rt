@@ -10,14 +10,7 @@ mod digit;
 pub fn are_digits(s: &[u8]) -> bool
     ensures { result ≡ are_digits s.now }
 {
-    let mut i = 0;
-    while i < s.len() {
-        if !digit::is_digit(s[i]) {
-            return false;
-        }
-        i += 1;
-    }
-    true
+    s.iter().all(|b| digit::is_digit(*b))
 }
 
 // Inner: the number of more than 16 digits need not fit a word. What the digits mean.
@@ -26,10 +19,8 @@ pub fn number(s: &[u8]) -> u64
     ensures { result ≡ number_of s.now }
 {
     let mut n: u64 = 0;
-    let mut i = 0;
-    while i < s.len() {
-        n = n * 16 + digit::value(s[i]);
-        i += 1;
+    for b in s {
+        n = n * 16 + digit::value(*b);
     }
     n
 }
@@ -40,11 +31,8 @@ pub fn write_digits(s: &mut [u8], x: u64)
     ensures { s.new ≡ digits_of (length s.old) x }
 {
     let mut rest = x;
-    let mut done = 0;
-    while done < s.len() {
-        let at = s.len() - 1 - done;
+    for at in (0..s.len()).rev() {
         s[at] = digit::digit_of(rest % 16);
         rest /= 16;
-        done += 1;
     }
 }

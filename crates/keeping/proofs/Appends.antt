@@ -2,8 +2,7 @@
 use mathlib.Core.Path.{◌≡◌, sym, ap, ap₂, subst, subst⁻¹, ◌∙◌}
 use mathlib.Core.Bool.{Bool, true, false, cond, not, and-eq-true_iff}
 use mathlib.Core.List.{List}
-use Prim.Native.Nat.{ℕ, suc, ◌+◌, ◌-◌, ◌*◌, ◌/◌, ◌^◌, ◌≤◌}
-use native.Mathlib.Nat.{mul-le-mul_left, sub-le}
+use Prim.Native.Nat.{ℕ, suc, ◌+◌, ◌-◌, ◌*◌, ◌^◌, ◌≤◌}
 use native.Mathlib.Omega.{arith}
 use borrow.Author.Tests.{leb-true, le-leb}
 use lib.Dec.{leb}
@@ -28,11 +27,10 @@ use Rattle.runs.proofs.Tables.{used_fits, canonical_is}
 use Rattle.agreement.specs.declared.Record.{Record}
 use Rattle.agreement.specs.declared.refusal.Refusal.TheVariants as refusal
 use Rattle.agreement.specs.Agreement.{kept, every}
-use Rattle.agreement.proofs.Runs.{ends_by}
 use Rattle.agreement.proofs.Scanning.{last_repeated}
 use Rattle.agreement.proofs.Judging.{all_begun, begun}
 use Rattle.agreement.proofs.Agreeing.{Agreeing, agreeing}
-use Rattle.keeping.specs.declared.Outcome.TheVariants.{Accepted, Refused}
+use Rattle.std.specs.Prelude.{Err, Ok}
 use Rattle.keeping.specs.Keeping.{unspent, words_keeping}
 use Rattle.keeping.specs.Steps.{count_passed, room_for, Fitting}
 use Rattle.keeping.specs.Append.{given, unspent_of, room_outcome, appended}
@@ -40,9 +38,6 @@ use Rattle.keeping.proofs.Unspent.{count_most, unspent_is}
 use Rattle.keeping.proofs.Stored.{none_left, same_runs, given_left, left_out, split, storable, left_with, room_is}
 
 -- ---- the limits
-
-pub ends_within : (next d n : ℕ) → (next ≤ largest_tick) × (1 ≤ d) → leb n ((largest_tick - next) / d) ≡ leb (next + d * n) largest_tick
-ends_within next d n h = ends_by next d n largest_tick h.1 h.0
 
 -- the last of the references given speaks for all
 begin_last : (h : Head) (s d n : ℕ) → 1 ≤ n → every (λ r. before_end h r.start.0) (repeated s d n) ≡ before_end h (s + d * (n - 1))
@@ -54,9 +49,6 @@ begin_last h s d n l =
     ap (λ r. before_end h r.start.0) (last_repeated s d (n - 1))
 
 module _ (rec : Record) (d n : ℕ) (h : Held rec.head × (1 ≤ n) × (rec.next.0 + d * n ≤ largest_tick)) where
-  pub begin_asks : Held rec.head × (rec.next.0 + d * (n - 1) ≤ largest_tick)
-  begin_asks = (h.0, omega (arith, mul-le-mul_left d (sub-le n 1), h.2))
-
   pub begin_is : (b : Bool) → b ≡ before_end rec.head (rec.next.0 + d * (n - 1)) → b ≡ every (λ r. before_end rec.head r.start.0) (given rec d n)
   begin_is b e = e ∙ sym (begin_last rec.head rec.next.0 d n h.1)
 
@@ -113,11 +105,11 @@ module _ (rec : Record) (ws : List ℕ) (span : Span) (n : ℕ) (fit : Fitting r
       pub spent_used : rec.used ≡ runs_for (unspent_of rec ws span.0 n)
       spent_used = sym (same_runs rec ws span n fit left_kept)
 
-      pub spent_room : room_outcome rec ws span.0 n ≡ Accepted
+      pub spent_room : room_outcome rec ws span.0 n ≡ Ok tt
       unfolding room_outcome
       spent_room =
-          ap (λ (m : ℕ). cond (leb m (capacity ws)) Accepted (Refused refusal.NoRunLeft)) (sym spent_used) ∙
-          ap (λ t. cond t Accepted (Refused refusal.NoRunLeft)) (le-leb rec.used (capacity ws) (used_fits rec.used ws facts.table))
+          ap (λ (m : ℕ). cond (leb m (capacity ws)) (Ok tt) (Err refusal.NoRunLeft)) (sym spent_used) ∙
+          ap (λ t. cond t (Ok tt) (Err refusal.NoRunLeft)) (le-leb rec.used (capacity ws) (used_fits rec.used ws facts.table))
 
       pub spent_table : ws ≡ words_keeping ws (unspent_of rec ws span.0 n)
       spent_table = canonical_is rec.used ws facts.table ∙ ap (words_keeping ws) (sym left_kept)
@@ -147,7 +139,7 @@ module _ (rec : Record) (ws : List ℕ) (span : Span) (n : ℕ) (fit : Fitting r
       is_room = room_is rec ws span n fit spent few behind some
 
       module _ (t : Bool) (e : t ≡ room_for rec.used ws span.0) where
-        pub store_full : not t ≡ true → room_outcome rec ws span.0 n ≡ Refused refusal.NoRunLeft
+        pub store_full : not t ≡ true → room_outcome rec ws span.0 n ≡ Err refusal.NoRunLeft
         unfolding room_outcome
         store_full m = sym (refused t _ _ _ (e ∙ sym is_room) m)
 
@@ -155,9 +147,9 @@ module _ (rec : Record) (ws : List ℕ) (span : Span) (n : ℕ) (fit : Fitting r
           has_room_lem : leb (runs_for (unspent_of rec ws span.0 n)) (capacity ws) ≡ true
           has_room_lem = told t _ (e ∙ sym is_room) m
 
-          pub store_accepted : room_outcome rec ws span.0 n ≡ Accepted
+          pub store_accepted : room_outcome rec ws span.0 n ≡ Ok tt
           unfolding room_outcome
-          store_accepted = ap (λ b. cond b Accepted (Refused refusal.NoRunLeft)) has_room_lem
+          store_accepted = ap (λ b. cond b (Ok tt) (Err refusal.NoRunLeft)) has_room_lem
 
           pub store_room : runs_for (kept_with rec.used ws (record { 0 = rec.next.0 + span.0 * spent }) span (n - spent)) ≤ capacity ws
           store_room = subst⁻¹ (λ rs. runs_for rs ≤ capacity ws) with_left (leb-true (runs_for (unspent_of rec ws span.0 n)) (capacity ws) has_room_lem)

@@ -19,7 +19,7 @@ use Rattle.agreement.specs.declared.Record.{Record}
 use Rattle.agreement.specs.declared.refusal.Refusal.TheVariants as refusal
 use Rattle.agreement.specs.Agreement.{every, counts_held, agrees}
 use Rattle.agreement.proofs.Agreeing.{agreeing}
-use Rattle.keeping.specs.declared.Outcome.TheVariants.{Refused}
+use Rattle.std.specs.Prelude.{Err}
 use Rattle.keeping.specs.Append.{given, room_outcome, fit_outcome}
 use Rattle.keeping.specs.Steps.{Fitting}
 
@@ -31,7 +31,7 @@ module _ (rec : Record) (ws : List ℕ) (span : Span) (n : ℕ) (h : (agrees rec
   ends_asks = ((agreeing rec ws h.0).held.next, lasts)
 
   module _ (x : Bool) (e : x ≡ leb (rec.next.0 + span.0 * n) largest_tick) where
-    pub ends_over : not x ≡ true → fit_outcome rec ws span.0 n ≡ Refused refusal.TickLimit
+    pub ends_over : not x ≡ true → fit_outcome rec ws span.0 n ≡ Err refusal.TickLimit
     unfolding fit_outcome
     ends_over m = sym (refused x _ _ _ e m)
 
@@ -48,7 +48,7 @@ module _ (rec : Record) (ws : List ℕ) (span : Span) (n : ℕ) (h : (agrees rec
       begins_asks = ((agreeing rec ws h.0).held.head, h.2, ends)
 
       module _ (y : Bool) (f : y ≡ counts_held rec.head.first.0 (rec.accepted + n)) where
-        pub counts_over : not y ≡ true → fit_outcome rec ws span.0 n ≡ Refused refusal.CountLimit
+        pub counts_over : not y ≡ true → fit_outcome rec ws span.0 n ≡ Err refusal.CountLimit
         unfolding fit_outcome
         counts_over k = sym (allowed x _ _ _ _ e m (refused y _ _ _ f k))
 
@@ -57,7 +57,7 @@ module _ (rec : Record) (ws : List ℕ) (span : Span) (n : ℕ) (h : (agrees rec
           fitting = record { agreed = h.0; held = h.1; some = h.2; ends = ends; counts = told y _ f k }
 
           module _ (z : Bool) (g : z ≡ every (λ r. before_end rec.head r.start.0) (given rec span.0 n)) where
-            pub begins_past : not z ≡ true → fit_outcome rec ws span.0 n ≡ Refused refusal.PastEnd
+            pub begins_past : not z ≡ true → fit_outcome rec ws span.0 n ≡ Err refusal.PastEnd
             unfolding fit_outcome
             begins_past i = sym (allowed x _ _ _ _ e m (allowed y _ _ _ _ f k (refused z _ _ _ g i)))
 

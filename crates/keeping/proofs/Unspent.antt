@@ -16,9 +16,7 @@ use Rattle.window.specs.declared.Passed.TheVariants.{All, Upto}
 use Rattle.window.specs.Window.{end_of, passed}
 use Rattle.window.specs.Ticks.{EndsPassed}
 use Rattle.window.specs.References.{EndToStart}
-use Rattle.runs.specs.Words.{repeated}
 use Rattle.runs.specs.Steps.{passed_upto}
-use Rattle.runs.proofs.Opening.{repeated_length}
 use Rattle.runs.proofs.Ends.{passed_most, none_upto}
 use Rattle.agreement.specs.Agreement.{every}
 use Rattle.keeping.specs.Keeping.{unspent}
@@ -26,16 +24,6 @@ use Rattle.keeping.specs.Steps.{count_passed}
 use Rattle.agreement.proofs.Judging.{coming, none_passed}
 
 -- ---- how many are spent, by what is passed
-
-module _ (p : Passed) (rs : List Reference) where
-  pub count_all : p ≡ All → (n : ℕ) → n ≡ length rs → n ≡ count_passed p rs
-  count_all e n k = k ∙ sym (ap (λ q. count_passed q rs) e)
-
-  pub count_upto : (t : ℕ) → p ≡ Upto (record { 0 = t }) → (n : ℕ) → n ≡ passed_upto t rs → n ≡ count_passed p rs
-  count_upto t e n k = k ∙ sym (ap (λ q. count_passed q rs) e)
-
-pub count_run : (p : Passed) (s d n : ℕ) → p ≡ All → n ≡ count_passed p (repeated s d n)
-count_run p s d n e = count_all p (repeated s d n) e n (sym (repeated_length s d n))
 
 pub count_most : (p : Passed) (rs : List Reference) → count_passed p rs ≤ length rs
 count_most All rs = le_refl (length rs)

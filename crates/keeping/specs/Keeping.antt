@@ -1,15 +1,13 @@
 -- What stays of references at a clock: those that are not spent. And what a call that changes leaves, by its outcome: refused,
 -- it returns the record as it came and changes no word. Paper: Window, needed, spent; Append and trim; Refusal numbers.
-use Rattle.std.specs.Prelude.{ℕ, ◌+◌, ◌-◌, cond, List, [], ◌∷◌, length}
+use Rattle.std.specs.Prelude.{Result, Err, Ok, ℕ, ◌+◌, ◌-◌, cond, List, [], ◌∷◌, length}
 use Rattle.window.specs.declared.Head.{Head}
 use Rattle.window.specs.declared.Reference.{Reference}
 use Rattle.window.specs.Window.{end_of, passed}
 use Rattle.runs.specs.Encoding.{canonical, runs_for}
 use Rattle.agreement.specs.declared.Record.{Record}
-use Rattle.keeping.specs.declared.Outcome.{Outcome}
-use Rattle.keeping.specs.declared.Outcome.TheVariants.{Accepted, Refused}
+use Rattle.agreement.specs.declared.refusal.Refusal.{Refusal}
 use Rattle.keeping.specs.declared.Changed.{Changed}
-use Rattle.agreement.specs.Numbers.{refusal_number, refusal_distance}
 
 -- those whose end has not passed. For a reference that lasts and starts before the period end, as every kept one does and every
 -- one of an accepted append, that is: not spent (`OnlySpent` of laws/specs/Spent.antt: `compared`, `trim`, `append`)
@@ -33,21 +31,15 @@ keeping rec all stay =
 abbrev pub words_keeping : List ℕ → List Reference → List ℕ
 words_keeping ws stay = canonical (length ws) stay
 
--- the paper's number of an outcome, 0 where the call is accepted
-abbrev pub outcome_number : Outcome → ℕ
-outcome_number Accepted = 0
-outcome_number (Refused r) = refusal_number r
-
--- and the distance of a gap or an overlap, 0 of every other outcome
-abbrev pub outcome_distance : Outcome → ℕ
-outcome_distance Accepted = 0
-outcome_distance (Refused r) = refusal_distance r
+-- what comes of a call that changes: it is accepted, or why it is refused
+abbrev pub Outcome : Type 0
+Outcome = Result (Unit {0}) Refusal
 
 -- a refused call returns the record as it came and changes no word
 unfoldable pub changed_by : Outcome → Record → Record → Changed
-changed_by Accepted new old = record { outcome = Accepted; rec = new }
-changed_by (Refused r) new old = record { outcome = Refused r; rec = old }
+changed_by (Ok _) new old = record { outcome = Ok tt; rec = new }
+changed_by (Err r) new old = record { outcome = Err r; rec = old }
 
 unfoldable pub words_by : Outcome → List ℕ → List ℕ → List ℕ
-words_by Accepted new old = new
-words_by (Refused r) new old = old
+words_by (Ok _) new old = new
+words_by (Err r) new old = old

@@ -9,11 +9,12 @@ ghost use Rattle.keeping.specs.Keeping.{words_keeping, changed_by, words_by};
 ghost use Rattle.keeping.specs.Steps.{room_for, Fitting};
 ghost use Rattle.keeping.specs.Append.{given, unspent_of, room_outcome, fit_outcome, appended};
 
+use crate::Changed;
 use crate::spent::count_passed_of;
-use crate::{Changed, accepted, refused};
 use agreement::{Record, Refusal, counts_held};
 use runs::Run;
-use units::{Span, Tick};
+use units::{Limited, Span, Tick};
+use window::HeldHead;
 
 // Inner: whether references end within the limit. The sum may pass 64 bits, so it is compared by a
 // division; callers show that the next tick is held and that a reference lasts.
@@ -30,8 +31,9 @@ fn all_begin(rec: Record, span: Span, count: u64) -> bool
     requires { Held rec.head × (1 ≤ count) × (rec.next.0 + span.0 * count ≤ largest_tick) }
     ensures { result ≡ every (λ x. before_end rec.head x.start.0) (given rec span.0 count) }
 {
+    let head = HeldHead { head: rec.head };
     let last = Tick(rec.next.0 + span.0 * (count - 1));
-    rec.head.before_end(last)
+    head.before_end(last)
 }
 
 // Inner: callers show that the table is shaped.
@@ -39,10 +41,7 @@ fn has_room(table: &[u64], used: usize, span: Span) -> bool
     requires { shaped used table.now ≡ true }
     ensures { result ≡ room_for used table.now span.0 }
 {
-    if !runs::table::needs_run(table, used, span) {
-        return true;
-    }
-    used < table.len() / 3
+    !runs::table::needs_run(table, used, span) || used < table.len() / 3
 }
 
 // Inner: the record that has accepted references, of which some are spent at once. Callers show that
@@ -51,13 +50,13 @@ fn counted(rec: Record, span: Span, count: u64, spent: u64, used: usize) -> Reco
     requires { (rec.next.0 + span.0 * count ≤ largest_tick) × (rec.accepted + count ≤ 2 ^ 31) × (rec.dropped + spent ≤ 2 ^ 31) }
     ensures { result ≡ record { head = rec.head; accepted = rec.accepted + count; dropped = rec.dropped + spent; next = record { 0 = rec.next.0 + span.0 * count }; clock = rec.clock; used = used } }
 {
-    let next = Tick(rec.next.0 + span.0 * count);
-    let mut new = rec;
-    new.accepted = rec.accepted + count;
-    new.dropped = rec.dropped + spent;
-    new.next = next;
-    new.used = used;
-    new
+    Record {
+        accepted: rec.accepted + count,
+        dropped: rec.dropped + spent,
+        next: Tick(rec.next.0 + span.0 * count),
+        used,
+        ..rec
+    }
 }
 
 // Inner: callers show all but that there is room. What is spent at once is counted and not stored.
@@ -66,19 +65,20 @@ fn keep_new(rec: Record, table: &mut [u64], span: Span, count: u64) -> Changed
     ensures value { result ≡ changed_by (room_outcome rec table.old span.0 count) (appended rec table.old span.0 count) rec }
     ensures table_after { table.new ≡ words_by (room_outcome rec table.old span.0 count) (words_keeping table.old (unspent_of rec table.old span.0 count)) table.old }
 {
-    let passed = rec.head.passed_ends(rec.clock);
+    let head = HeldHead { head: rec.head };
+    let passed = head.passed_ends(rec.clock);
     let start = rec.next;
     let spent = count_passed_of(passed, Run { start, span, count });
     let used = rec.used;
     if spent == count {
-        return accepted(counted(rec, span, count, spent, used));
+        return Changed::accepted(counted(rec, span, count, spent, used));
     }
     if !has_room(table, used, span) {
-        return refused(Refusal::NoRunLeft, rec);
+        return Changed::refused(Refusal::NoRunLeft, rec);
     }
     let first = Tick(start.0 + span.0 * spent);
     let then = runs::table::store(table, used, first, span, count - spent);
-    accepted(counted(rec, span, count, spent, then))
+    Changed::accepted(counted(rec, span, count, spent, then))
 }
 
 // Inner: callers show that record and table agree and that the append lasts and counts. Judged from 6
@@ -89,13 +89,13 @@ pub fn append_joined(rec: Record, table: &mut [u64], span: Span, count: u64) -> 
     ensures table_after { table.new ≡ words_by (fit_outcome rec table.old span.0 count) (words_keeping table.old (unspent_of rec table.old span.0 count)) table.old }
 {
     if !ends_within(rec.next, span, count) {
-        return refused(Refusal::TickLimit, rec);
+        return Changed::refused(Refusal::TickLimit, rec);
     }
     if !counts_held(rec.head.first, rec.accepted + count) {
-        return refused(Refusal::CountLimit, rec);
+        return Changed::refused(Refusal::CountLimit, rec);
     }
     if !all_begin(rec, span, count) {
-        return refused(Refusal::PastEnd, rec);
+        return Changed::refused(Refusal::PastEnd, rec);
     }
     keep_new(rec, table, span, count)
 }

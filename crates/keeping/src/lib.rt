@@ -3,7 +3,6 @@
 #![tactic(auto)]
 
 ghost use Rattle.std.specs.Prelude.{◌≡◌};
-ghost use Rattle.keeping.specs.Keeping.{outcome_number, outcome_distance};
 
 use agreement::{Record, Refusal};
 
@@ -13,56 +12,42 @@ mod spent;
 pub use appending::append_joined;
 pub use spent::count_passed;
 
-// What came of a call that changes.
-#[derive(Clone, Copy)]
-pub enum Outcome {
-    Accepted,
-    Refused(Refusal),
-}
+// What came of a call that changes: nothing, where it is accepted, or why it is refused.
+pub type Outcome = Result<(), Refusal>;
 
-impl Outcome {
-    // The paper's number, 0 where the call is accepted.
-    pub fn number(self) -> u32
-        ensures { result ≡ outcome_number self }
-    {
-        match self {
-            Outcome::Accepted => 0,
-            Outcome::Refused(why) => why.number(),
-        }
-    }
-
-    // How far the start of a refused append lies from the next tick, 0 where that is not why.
-    pub fn distance(self) -> u64
-        ensures { result ≡ outcome_distance self }
-    {
-        match self {
-            Outcome::Accepted => 0,
-            Outcome::Refused(why) => why.distance(),
-        }
-    }
-}
-
-// The outcome, and the record to go on with: as it came where the call is refused.
+// The outcome, and the record to go on with. It stands beside a refusal too, since the paper has a refused
+// call return the record as it came, and a refused opening a zero record (`changed_by`, `open_answer`).
 #[derive(Clone, Copy)]
 pub struct Changed {
     pub outcome: Outcome,
     pub rec: Record,
 }
 
-pub fn refused(why: Refusal, rec: Record) -> Changed
-    ensures { result ≡ record { outcome = Outcome.Refused why; rec = rec } }
-{
-    Changed {
-        outcome: Outcome::Refused(why),
-        rec,
+impl Changed {
+    pub fn accepted(rec: Record) -> Changed
+        ensures { result ≡ record { outcome = Ok tt; rec = rec } }
+    {
+        Changed {
+            outcome: Ok(()),
+            rec,
+        }
     }
-}
 
-pub fn accepted(rec: Record) -> Changed
-    ensures { result ≡ record { outcome = Outcome.Accepted; rec = rec } }
-{
-    Changed {
-        outcome: Outcome::Accepted,
-        rec,
+    pub fn refused(why: Refusal, rec: Record) -> Changed
+        ensures { result ≡ record { outcome = Err why; rec = rec } }
+    {
+        Changed {
+            outcome: Err(why),
+            rec,
+        }
+    }
+
+    // Stores the record over one that is lent, and answers the outcome alone.
+    pub fn store(self, rec: &mut Record) -> Outcome
+        ensures value { result ≡ self.outcome }
+        ensures stored { rec.new ≡ self.rec }
+    {
+        *rec = self.rec;
+        self.outcome
     }
 }

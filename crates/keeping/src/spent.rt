@@ -14,12 +14,12 @@ pub(crate) fn count_passed_of(passed: Passed, run: Run) -> u64
 {
     match passed {
         Passed::All => run.count,
-        Passed::Upto(t) => runs::table::passed_in(run, t),
+        Passed::Upto(t) => run.passed_by(t),
     }
 }
 
 // Inner: how many of the kept references, of which the caller has the total, have passed. Callers show
-// that the table is shaped.
+// that the table is shaped. One match for this and the above would take a closure: no plainer.
 pub fn count_passed(passed: Passed, table: &[u64], used: usize, total: u64) -> u64
     requires { (shaped used table.now ≡ true) × (total ≡ length (kept_in used table.now)) }
     ensures { result ≡ count_passed passed (kept_in used table.now) }

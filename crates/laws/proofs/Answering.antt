@@ -6,31 +6,19 @@ use Prim.Native.Nat.{ℕ, ◌+◌, ◌≤◌}
 use native.Mathlib.Omega.{arith}
 use borrow.Author.Tests.{eqb-true}
 use lib.Dec.{eqb}
-use lib.IntN.{ℤ}
 use lib.ListN.{length}
 use Rattle.units.proofs.Choice.{chosen, passed_over}
 use Rattle.agreement.specs.declared.Record.{Record}
 use Rattle.agreement.specs.declared.refusal.Refusal.TheVariants as refusal
 use Rattle.agreement.specs.Rows.{◌when◌else◌}
-use Rattle.keeping.specs.declared.Outcome.{Outcome}
-use Rattle.keeping.specs.declared.Outcome.TheVariants.{Accepted, Refused}
+use Rattle.std.specs.Prelude.{Result, Err, Ok}
+use Rattle.keeping.specs.Keeping.{Outcome}
 use Rattle.keeping.specs.declared.Changed.{Changed}
-use Rattle.keeping.specs.Keeping.{outcome_number, outcome_distance, changed_by, words_by}
+use Rattle.keeping.specs.Keeping.{changed_by, words_by}
 use Rattle.timeline.specs.Opening.{zero_record}
-use Rattle.answers.specs.declared.Verdict.{Verdict}
-use Rattle.answers.specs.declared.Verdict.TheVariants as verdict
-use Rattle.answers.specs.declared.CoveredEdge.{CoveredEdge}
-use Rattle.answers.specs.declared.CoveredEdge.TheVariants as edge
-use Rattle.answers.specs.Numbers.{verdict_number, edge_number}
-use Rattle.lookups.specs.declared.Availability.{Availability}
-use Rattle.lookups.specs.declared.Availability.TheVariants as availability
-use Rattle.lookups.specs.declared.AvailableAt.{AvailableAt}
-use Rattle.lookups.specs.declared.AvailableAt.TheVariants as at
-use Rattle.lookups.specs.declared.stamps.FullTick.{FullTick}
-use Rattle.lookups.specs.declared.stamps.FullTick.TheVariants as full
-use Rattle.lookups.specs.declared.Touching.{Touching}
-use Rattle.lookups.specs.declared.Touching.TheVariants as touching
-use Rattle.lookups.specs.Numbers.{availability_number, available_number, touching_number, full_tick_number}
+use Rattle.agreement.specs.declared.refusal.Refusal.{Refusal}
+use Rattle.lookups.specs.declared.Words.{Words}
+use Rattle.agreement.specs.Numbers.{answer_distance, answer_number}
 use Rattle.lookups.specs.Spans.{part_of}
 use Rattle.file.specs.declared.Reader.{Reader}
 use Rattle.file.specs.declared.Reading.{Reading}
@@ -39,15 +27,13 @@ use Rattle.file.specs.Lines.{rest_from}
 use Rattle.file.specs.Judging.{read_lines, read_outcome, answered_by, read_answer, read_table, zeroed}
 use Rattle.file.specs.SoFar.{so_far, first_bytes}
 use Rattle.file.specs.Feeding.{belongs, fed_file, fed_reader, fed_table, finish_outcome, finish_answer, finish_table}
-use Rattle.writing.specs.declared.WriteAnswer.{WriteAnswer}
-use Rattle.writing.specs.declared.WriteAnswer.TheVariants as written
-use Rattle.writing.specs.Writing.{write_number, output_by}
+use Rattle.writing.specs.Writing.{output_by}
 use Rattle.words.specs.Words.{record_words, words_of}
 use Rattle.words.specs.Lengths.{wrong_record, wrong_length}
-use Rattle.words.specs.Tells.{Tells, verdict_tells, availability_tells, touching_tells, edge_tells, write_tells, available_tells, full_tick_tells}
+use Rattle.words.specs.Tells.{Tells, tells_by, words_of_length}
 use Rattle.words.proofs.Lengths.{both_right}
 use Rattle.flonterri.specs.Face.{guarded, changes, tells, leaves, reads, writes_by, Changes as Seen, Leaves as Left, Writes as Wrote}
-use Rattle.flonterri.proofs.Facing.{behind}
+use Rattle.flonterri.proofs.Facing.{unguarded}
 use Rattle.flonterri.proofs.Refusing.{read_refused}
 use Rattle.agreement.proofs.Numbers.{refusal_some}
 use Rattle.laws.specs.Refusals.{lowest, is_apart, distance_with}
@@ -56,66 +42,40 @@ use Rattle.laws.proofs.Reading.{reading_right}
 
 -- ---- Rattle's calls
 
-pub changing : (o : Outcome) (new old : Record) (words ws : List ℕ) (rows : List (Bool × ℕ)) → outcome_number (changed_by o new old).outcome ≡ lowest rows →
+pub changing : (o : Outcome) (new old : Record) (words ws : List ℕ) (rows : List (Bool × ℕ)) → answer_number (changed_by o new old).outcome ≡ lowest rows →
     (x : Changed) (after : List ℕ) → x ≡ changed_by o new old → after ≡ words_by o words ws → Changes x after rows old ws
 unfolding changed_by words_by
 changing o new old words ws rows number x after e f =
-    record { number = ap (λ y. outcome_number y.outcome) e ∙ number; refused = go o e f }
+    record { number = ap (λ y. answer_number y.outcome) e ∙ number; refused = go o e f }
   where
-    go : (o : Outcome) → x ≡ changed_by o new old → after ≡ words_by o words ws → (outcome_number x.outcome ≡ 0 → ⊥) → (x.rec ≡ old) × (after ≡ ws)
-    go Accepted e f k = absurd (k (ap (λ y. outcome_number y.outcome) e))
-    go (Refused why) e f k = (ap (λ y. y.rec) e, f)
+    go : (o : Outcome) → x ≡ changed_by o new old → after ≡ words_by o words ws → (answer_number x.outcome ≡ 0 → ⊥) → (x.rec ≡ old) × (after ≡ ws)
+    go (Ok _) e f k = absurd (k (ap (λ y. answer_number y.outcome) e))
+    go (Err why) e f k = (ap (λ y. y.rec) e, f)
 
--- an answer by cases gives a number of its own only where it is refused
-pub verdict_only : (v : Verdict) → (verdict_number v ≡ 0 → ⊥) → Only verdict.Refused v
-verdict_only verdict.Nothing k = absurd (k refl)
-verdict_only (verdict.Complete n) k = absurd (k refl)
-verdict_only (verdict.Lacking n m t) k = absurd (k refl)
-verdict_only (verdict.Refused why) k = (why, refl)
+-- an answer gives a number of its own only where it is refused
+pub only_refused : {A : Type 0} (v : Result A Refusal) → (answer_number v ≡ 0 → ⊥) → Only Err v
+only_refused (Ok x) k = absurd (k refl)
+only_refused (Err why) k = (why, refl)
 
-pub availability_only : (v : Availability) → (availability_number v ≡ 0 → ⊥) → Only availability.Refused v
-availability_only (availability.NeverEnds a) k = absurd (k refl)
-availability_only (availability.Ends a b) k = absurd (k refl)
-availability_only (availability.Refused why) k = (why, refl)
+pub no_part : (v : Result Words Refusal) (ws : List ℕ) → (answer_number v ≡ 0 → ⊥) → part_of v ws ≡ []
+no_part (Ok w) ws k = absurd (k refl)
+no_part (Err why) ws k = refl
 
-pub available_only : (v : AvailableAt) → (available_number v ≡ 0 → ⊥) → Only at.Refused v
-available_only at.Yes k = absurd (k refl)
-available_only at.No k = absurd (k refl)
-available_only (at.Refused why) k = (why, refl)
-
-pub full_only : (v : FullTick) → (full_tick_number v ≡ 0 → ⊥) → Only full.Refused v
-full_only (full.At t) k = absurd (k refl)
-full_only full.Nowhere k = absurd (k refl)
-full_only (full.Refused why) k = (why, refl)
-
-pub touching_only : (v : Touching) → (touching_number v ≡ 0 → ⊥) → Only touching.Refused v
-touching_only (touching.Words a b) k = absurd (k refl)
-touching_only (touching.Refused why) k = (why, refl)
-
-pub edge_only : (v : CoveredEdge) → (edge_number v ≡ 0 → ⊥) → Only edge.Refused v
-edge_only (edge.At m) k = absurd (k refl)
-edge_only edge.Never k = absurd (k refl)
-edge_only (edge.Refused why) k = (why, refl)
-
-pub no_part : (v : Touching) (ws : List ℕ) → (touching_number v ≡ 0 → ⊥) → part_of v ws ≡ []
-no_part (touching.Words a b) ws k = absurd (k refl)
-no_part (touching.Refused why) ws k = refl
-
-pub write_leaves : (v : WriteAnswer) (bytes out : List ℕ) → (write_number v ≡ 0 → ⊥) → output_by v bytes out ≡ out
+pub write_leaves : (v : Result ℕ Refusal) (bytes out : List ℕ) → (answer_number v ≡ 0 → ⊥) → output_by v bytes out ≡ out
 unfolding output_by
-write_leaves (written.Written n) bytes out k = absurd (k refl)
-write_leaves (written.Refused why) bytes out k = refl
+write_leaves (Ok n) bytes out k = absurd (k refl)
+write_leaves (Err why) bytes out k = refl
 
 -- ---- readings
 
 -- by its outcome, from a reading that has come so far
 pub answered : (o : Outcome) (r : Reading) (new before : List ℕ) (x : ReadAnswer) (after : List ℕ) → x ≡ answered_by o r → after ≡ words_by o new (zeroed before) → Zeroes x after before
 unfolding words_by
-answered Accepted r new before x after e f =
-    record { accepted = λ k. ap (λ y. y.line) e; refused = λ k. absurd (k (ap (λ y. outcome_number y.outcome) e)) }
-answered (Refused why) r new before x after e f =
+answered (Ok _) r new before x after e f =
+    record { accepted = λ k. ap (λ y. y.line) e; refused = λ k. absurd (k (ap (λ y. answer_number y.outcome) e)) }
+answered (Err why) r new before x after e f =
     record {
-      accepted = λ k. absurd (refusal_some why (sym (ap (λ y. outcome_number y.outcome) e) ∙ k));
+      accepted = λ k. absurd (refusal_some why (sym (ap (λ y. answer_number y.outcome) e) ∙ k));
       refused = λ k. (ap (λ y. y.rec) e, some r.lines x.line (ap (λ y. y.line) e), f);
     }
   where
@@ -126,9 +86,9 @@ pub reading : (bytes before : List ℕ) (x : ReadAnswer) (after : List ℕ) → 
 unfolding read_answer read_table
 reading bytes before x after e f =
     record {
-      number = ap (λ y. outcome_number y.outcome) e ∙ reading_right.number bytes before;
+      number = ap (λ y. answer_number y.outcome) e ∙ reading_right.number bytes before;
       line = ap (λ y. y.line) e ∙ reading_right.line bytes before;
-      distance = ap (λ y. outcome_distance y.outcome) e ∙ reading_right.distance bytes before;
+      distance = ap (λ y. answer_distance y.outcome) e ∙ reading_right.distance bytes before;
       left = answered (read_outcome bytes before) (read_lines bytes before).reading (read_lines bytes before).words before x after e f;
     }
 
@@ -146,11 +106,11 @@ module _ (reader : Reader) (before : List ℕ) where
       let b = belongs reader before in
       let here = answered_by (finish_outcome reader) reader.reading in
       let there = words_by (finish_outcome reader) before (zeroed before) in
-      let apart : ReadAnswer = record { outcome = Refused refusal.Disagreement; rec = zero_record; line = 0 } in
+      let apart : ReadAnswer = record { outcome = Err refusal.Disagreement; rec = zero_record; line = 0 } in
       record {
         apart = λ k.
             let y = e ∙ sym (passed_over b b here apart refl k) in
-            (ap (λ z. outcome_number z.outcome) y, ap (λ z. z.rec) y, ap (λ z. z.line) y, f ∙ sym (passed_over b b there before refl k));
+            (ap (λ z. answer_number z.outcome) y, ap (λ z. z.rec) y, ap (λ z. z.line) y, f ∙ sym (passed_over b b there before refl k));
         together = λ k.
             answered (finish_outcome reader) reader.reading before before x after (e ∙ sym (chosen b b here apart refl k))
             (f ∙ sym (chosen b b there before refl k));
@@ -158,12 +118,12 @@ module _ (reader : Reader) (before : List ℕ) where
 
 -- ---- C: what stands behind the lengths
 
-pub changes_number : (ws ts : List ℕ) (x : Changed) (new : List ℕ) (rows : List (Bool × ℕ)) → outcome_number x.outcome ≡ lowest rows →
+pub changes_number : (ws ts : List ℕ) (x : Changed) (new : List ℕ) (rows : List (Bool × ℕ)) → answer_number x.outcome ≡ lowest rows →
     (changes ws ts x new).number ≡ lowest (record_rows ws rows)
 unfolding changes guarded wrong_record
 changes_number ws ts x new rows e = go (eqb (length ws) record_words)
   where
-    go : (t : Bool) → (cond {A = Seen} (eqb (cond t 0 2) 0) (record { number = outcome_number x.outcome; words = words_of x.rec; table = new })
+    go : (t : Bool) → (cond {A = Seen} (eqb (cond t 0 2) 0) (record { number = answer_number x.outcome; words = words_of x.rec; table = new })
         (record { number = cond t 0 2; words = ws; table = ts })).number ≡ lowest ((not t, 2) ∷ rows)
     go true = e
     go false = refl
@@ -179,56 +139,19 @@ tells_number ws size call out rows e = go (eqb (length ws) record_words) (eqb (l
     go true false = refl
     go false t = refl
 
-pub verdict_told : (v : Verdict) (out : List ℕ) → (verdict_tells v out).number ≡ verdict_number v
-unfolding verdict_tells
-verdict_told verdict.Nothing out = refl
-verdict_told (verdict.Complete n) out = refl
-verdict_told (verdict.Lacking n m t) out = refl
-verdict_told (verdict.Refused why) out = refl
+pub told_number : {A B : Type 0} (shown : A → List B) (v : Result A Refusal) (out : List B) → (tells_by shown v out).number ≡ answer_number v
+unfolding tells_by
+told_number shown v out = refl
 
-pub availability_told : (v : Availability) (out : List ℤ) → (availability_tells v out).number ≡ availability_number v
-unfolding availability_tells
-availability_told (availability.NeverEnds a) out = refl
-availability_told (availability.Ends a b) out = refl
-availability_told (availability.Refused why) out = refl
-
-pub available_told : (v : AvailableAt) (out : List ℕ) → (available_tells v out).number ≡ available_number v
-unfolding available_tells
-available_told at.Yes out = refl
-available_told at.No out = refl
-available_told (at.Refused why) out = refl
-
-pub full_told : (v : FullTick) (out : List ℕ) → (full_tick_tells v out).number ≡ full_tick_number v
-unfolding full_tick_tells
-full_told (full.At t) out = refl
-full_told full.Nowhere out = refl
-full_told (full.Refused why) out = refl
-
-pub touching_told : (v : Touching) (out : List ℕ) → (touching_tells v out).number ≡ touching_number v
-unfolding touching_tells
-touching_told (touching.Words a b) out = refl
-touching_told (touching.Refused why) out = refl
-
-pub edge_told : (v : CoveredEdge) (out : List ℕ) → (edge_tells v out).number ≡ edge_number v
-unfolding edge_tells
-edge_told (edge.At m) out = refl
-edge_told edge.Never out = refl
-edge_told (edge.Refused why) out = refl
-
-write_told : (v : WriteAnswer) (out : List ℕ) → (write_tells v out).number ≡ write_number v
-unfolding write_tells
-write_told (written.Written n) out = refl
-write_told (written.Refused why) out = refl
-
-pub writes_number : (ws bytes out : List ℕ) (v : WriteAnswer) (new : List ℕ) (rows : List (Bool × ℕ)) → write_number v ≡ lowest rows →
+pub writes_number : (ws bytes out : List ℕ) (v : Result ℕ Refusal) (new : List ℕ) (rows : List (Bool × ℕ)) → answer_number v ≡ lowest rows →
     (writes_by ws bytes out v new).number ≡ lowest (length_rows ws out 1 rows)
 unfolding writes_by guarded wrong_length
 writes_number ws bytes out v new rows e = go (eqb (length ws) record_words) (eqb (length out) 1)
   where
-    go : (s t : Bool) → (cond {A = Wrote} (eqb (cond s (cond t 0 15) 2) 0) (record { number = (write_tells v out).number; bytes = new; out = (write_tells v out).out })
+    go : (s t : Bool) → (cond {A = Wrote} (eqb (cond s (cond t 0 15) 2) 0) (record { number = (tells_by words_of_length v out).number; bytes = new; out = (tells_by words_of_length v out).out })
         (record { number = cond s (cond t 0 15) 2; bytes = bytes; out = out })).number ≡
         lowest ((not s, 2) ∷ (not t, 15) ∷ rows)
-    go true true = write_told v out ∙ e
+    go true true = told_number words_of_length v out ∙ e
     go true false = refl
     go false t = refl
 
@@ -248,14 +171,14 @@ pub tells_c : {A : Type 0} (ws : List ℕ) (size : ℕ) (rows : List (Bool × �
 tells_c ws size rows out told number leaves x after e f = record { number = e ∙ number; refused = λ k. f ∙ leaves (λ z. k (e ∙ z)) }
 
 -- a call whose own number is never 2 gives 2 for the record's length alone
-pub length_alone : (ws ts : List ℕ) (x : Changed) (new : List ℕ) → (outcome_number x.outcome ≡ 2 → ⊥) → (changes ws ts x new).number ≡ 2 →
+pub length_alone : (ws ts : List ℕ) (x : Changed) (new : List ℕ) → (answer_number x.outcome ≡ 2 → ⊥) → (changes ws ts x new).number ≡ 2 →
     ((changes ws ts x new).words ≡ ws) × ((changes ws ts x new).table ≡ ts)
 unfolding changes guarded wrong_record
 length_alone ws ts x new never = go (eqb (length ws) record_words)
   where
     at : Bool → Seen
     at t =
-        cond (eqb (cond t 0 2) 0) (record { number = outcome_number x.outcome; words = words_of x.rec; table = new })
+        cond (eqb (cond t 0 2) 0) (record { number = answer_number x.outcome; words = words_of x.rec; table = new })
         (record { number = cond t 0 2; words = ws; table = ts })
 
     go : (t : Bool) → (at t).number ≡ 2 → ((at t).words ≡ ws) × ((at t).table ≡ ts)
@@ -269,10 +192,10 @@ module _ (ws ts out : List ℕ) (size : ℕ) (o : Outcome) (rec : Record) (new t
   abbrev left : Bool → Bool → Left
   left s t =
       cond (eqb (cond s (cond t 0 15) 2) 0)
-      (record { number = outcome_number o; words = words_of rec; table = new; out = told })
+      (record { number = answer_number o; words = words_of rec; table = new; out = told })
       (record { number = cond s (cond t 0 15) 2; words = ws; table = ts; out = out })
 
-  pub leaves_number : (rows : List (Bool × ℕ)) → outcome_number o ≡ lowest rows → (leaves ws ts out size o rec new told).number ≡ lowest (length_rows ws out size rows)
+  pub leaves_number : (rows : List (Bool × ℕ)) → answer_number o ≡ lowest rows → (leaves ws ts out size o rec new told).number ≡ lowest (length_rows ws out size rows)
   unfolding leaves guarded wrong_length
   leaves_number rows e = go (eqb (length ws) record_words) (eqb (length out) size)
     where
@@ -304,11 +227,11 @@ module _ (ws ts out : List ℕ) (size : ℕ) (o : Outcome) (rec : Record) (new t
 
   lengths_passed : lowest (length_rows ws out size []) ≡ 0 →
       let x = leaves ws ts out size o rec new told in
-      (x.number ≡ outcome_number o) × (x.out ≡ told)
+      (x.number ≡ answer_number o) × (x.out ≡ told)
   unfolding leaves
   lengths_passed e =
       let l = lengths_right e in
-      let r = sym (behind _ _ _ 0 (both_right _ _ size l.0 l.1) refl) in (ap (λ (y : Left). y.number) r, ap (λ (y : Left). y.out) r)
+      let r = sym (unguarded _ _ _ (both_right _ _ size l.0 l.1)) in (ap (λ (y : Left). y.number) r, ap (λ (y : Left). y.out) r)
 
 pub appends_c : (ws ts out : List ℕ) (rows : List (Bool × ℕ)) (ahead behind : ℕ) (left : Left) → left.number ≡ lowest (length_rows ws out 1 rows) →
     ((left.number ≡ 0 → ⊥) → (left.words ≡ ws) × (left.table ≡ ts)) →
@@ -327,7 +250,7 @@ module _ (bytes ws ts out : List ℕ) where
   answer = read_answer bytes ts
 
   abbrev said : List ℕ
-  said = answer.line ∷ outcome_distance answer.outcome ∷ []
+  said = answer.line ∷ answer_distance answer.outcome ∷ []
 
   pub reads_c : (x : ℕ) (words table told : List ℕ) → x ≡ (reads bytes ws ts out).number → words ≡ (reads bytes ws ts out).words →
       table ≡ (reads bytes ws ts out).table → told ≡ (reads bytes ws ts out).out → ReadsFromC bytes x ws ts out words table told

@@ -1,4 +1,5 @@
 -- The calls that change give the lowest number whose condition holds: their tests, one after the other, are the rows.
+use Rattle.agreement.specs.Numbers.{answer_number}
 use mathlib.Core.Path.{◌≡◌, refl, sym, ap, ap₂, ◌∙◌}
 use mathlib.Core.Bool.{Bool, true, false, cond, not, ◌&&◌, ◌||◌, and-false}
 use mathlib.Core.List.{List, [], ◌∷◌}
@@ -22,8 +23,8 @@ use Rattle.runs.specs.Encoding.{runs_for}
 use Rattle.agreement.specs.declared.Record.{Record}
 use Rattle.agreement.specs.declared.refusal.Refusal.TheVariants as refusal
 use Rattle.agreement.specs.Agreement.{every, counts_held, agrees}
-use Rattle.keeping.specs.declared.Outcome.TheVariants.{Accepted, Refused}
-use Rattle.keeping.specs.Keeping.{outcome_number, changed_by}
+use Rattle.std.specs.Prelude.{Err, Ok}
+use Rattle.keeping.specs.Keeping.{Outcome, changed_by}
 use Rattle.keeping.specs.Append.{given, unspent_of, room_outcome, fit_outcome}
 use Rattle.keeping.specs.Steps.{Fitting}
 use Rattle.keeping.proofs.Outcomes.{outcome_beside as told}
@@ -38,10 +39,10 @@ use Rattle.laws.proofs.Rows.{Fails, over, none, either, not_every}
 
 -- ---- opening and trimming
 
-pub opening : (h : Head) (t : Tick) → outcome_number (open_answer h t).outcome ≡ lowest (open_rows h t)
+pub opening : (h : Head) (t : Tick) → answer_number (open_answer h t).outcome ≡ lowest (open_rows h t)
 unfolding open_outcome
 opening h t =
-    ap outcome_number (told (open_outcome h t) _ _) ∙
+    ap answer_number (told (open_outcome h t) _ _) ∙
     by (head_held h && tick_held t) ∙
     ap (λ b. cond {A = ℕ} b 1 0) fails.is
   where
@@ -59,19 +60,19 @@ opening h t =
         (over h.update.0 largest_millis))
         (over t.0 largest_tick)
 
-    by : (b : Bool) → outcome_number (cond b Accepted (Refused refusal.OverLimit)) ≡ cond (not b) 1 0
+    by : (b : Bool) → answer_number (cond {A = Outcome} b (Ok tt) (Err refusal.OverLimit)) ≡ cond (not b) 1 0
     by true = refl
     by false = refl
 
 pub trim : (rec : Record) (ws : List ℕ) (c : WideMillis) →
-    outcome_number (trim_answer rec ws c).outcome ≡ lowest (trim_rows rec ws c)
+    answer_number (trim_answer rec ws c).outcome ≡ lowest (trim_rows rec ws c)
 unfolding trim_outcome
 trim rec ws c =
-    ap outcome_number (told (trim_outcome rec ws c) _ _) ∙
+    ap answer_number (told (trim_outcome rec ws c) _ _) ∙
     by (agrees rec ws) (leb c.0 largest_millis) ∙
     ap (λ b. cond {A = ℕ} (not (agrees rec ws)) 2 (cond b 10 0)) (over c.0 largest_millis).is
   where
-    by : (a b : Bool) → outcome_number (cond a (cond b Accepted (Refused refusal.ClockLimit)) (Refused refusal.Disagreement)) ≡ cond (not a) 2 (cond (not b) 10 0)
+    by : (a b : Bool) → answer_number (cond {A = Outcome} a (cond b (Ok tt) (Err refusal.ClockLimit)) (Err refusal.Disagreement)) ≡ cond (not a) 2 (cond (not b) 10 0)
     by true true = refl
     by true false = refl
     by false b = refl
@@ -92,7 +93,7 @@ module _ (rec : Record) (ws : List ℕ) (d n : ℕ) where
   room = leb (runs_for (unspent_of rec ws d n)) (capacity ws)
 
   -- the rows as the definitions have them
-  by_tests : (st : Standing) → outcome_number (append_outcome rec ws st d n) ≡
+  by_tests : (st : Standing) → answer_number (append_outcome rec ws st d n) ≡
       lowest
       ((not (agrees rec ws), 2) ∷ (eqb d 0 || eqb n 0, 3) ∷ (eqb (standing_number st) 4, 4) ∷ (eqb (standing_number st) 5, 5) ∷ (not ends, 6) ∷
       (not counts, 7) ∷ (not begins, 8) ∷ (not room, 9) ∷ [])
@@ -100,13 +101,13 @@ module _ (rec : Record) (ws : List ℕ) (d n : ℕ) where
   by_tests st = by (agrees rec ws) (eqb d 0 || eqb n 0) st ends counts begins room
     where
       by : (a z : Bool) (st : Standing) (e c b r : Bool) →
-          outcome_number
-          (cond a
-          (cond z (Refused refusal.NothingGiven)
+          answer_number
+          (cond {A = Outcome} a
+          (cond z (Err refusal.NothingGiven)
           (unjoined st else
-          cond e (cond c (cond b (cond r Accepted (Refused refusal.NoRunLeft)) (Refused refusal.PastEnd)) (Refused refusal.CountLimit))
-          (Refused refusal.TickLimit)))
-          (Refused refusal.Disagreement)) ≡
+          cond e (cond c (cond b (cond r (Ok tt) (Err refusal.NoRunLeft)) (Err refusal.PastEnd)) (Err refusal.CountLimit))
+          (Err refusal.TickLimit)))
+          (Err refusal.Disagreement)) ≡
           lowest
           ((not a, 2) ∷ (z, 3) ∷ (eqb (standing_number st) 4, 4) ∷ (eqb (standing_number st) 5, 5) ∷ (not e, 6) ∷ (not c, 7) ∷ (not b, 8) ∷ (not r, 9) ∷ [])
       by false z st e c b r = refl
@@ -146,11 +147,11 @@ module _ (rec : Record) (ws : List ℕ) (d n : ℕ) where
   lastly true false false false true true true x y k = ap (λ t. cond {A = ℕ} t 9 0) (k refl refl refl refl)
 
   by_words : d ≤ largest_span → (st : Standing) (after before : Bool) → eqb (standing_number st) 4 ≡ after → eqb (standing_number st) 5 ≡ before → (new old : Record) →
-      outcome_number (changed_by (append_outcome rec ws st d n) new old).outcome ≡ lowest (append_rows rec ws after before d n)
+      answer_number (changed_by (append_outcome rec ws st d n) new old).outcome ≡ lowest (append_rows rec ws after before d n)
   unfolding ends counts begins room
   by_words narrow st after before f g new old =
       let z = eqb d 0 || eqb n 0 in
-      ap outcome_number (told (append_outcome rec ws st d n) new old) ∙
+      ap answer_number (told (append_outcome rec ws st d n) new old) ∙
       by_tests st ∙
       ap₂
       (λ u v. lowest ((not (agrees rec ws), 2) ∷ (z, 3) ∷ (u, 4) ∷ (v, 5) ∷ (not ends, 6) ∷ (not counts, 7) ∷ (not begins, 8) ∷ (not room, 9) ∷ [])) f g ∙
@@ -200,7 +201,7 @@ module _ (start next : ℕ) where
           at false k = ap not (lt-ltb next start (omega (arith, ltb-false start next e, eqb-false start next k)))
 
 module _ (rec : Record) (ws : List ℕ) (d n : ℕ) (narrow : d ≤ largest_span) where
-  pub append : (start : WideTick) → outcome_number (append_answer rec ws (tick_standing start rec.next) d n).outcome ≡
+  pub append : (start : WideTick) → answer_number (append_answer rec ws (tick_standing start rec.next) d n).outcome ≡
       lowest (append_tick_rows rec ws start d n)
   append start =
       by_words rec ws d n narrow (tick_standing start rec.next) (ltb rec.next.0 start.0) (ltb start.0 rec.next.0)
@@ -208,7 +209,7 @@ module _ (rec : Record) (ws : List ℕ) (d n : ℕ) (narrow : d ≤ largest_span
       (overlap_is _ _ (eqb start.0 rec.next.0) (ltb rec.next.0 start.0) ∙ before start.0 rec.next.0)
       _ rec
 
-  pub append_stamp : (stamp : Stamp) → outcome_number (append_answer rec ws (stamp_standing stamp rec.next) d n).outcome ≡
+  pub append_stamp : (stamp : Stamp) → answer_number (append_answer rec ws (stamp_standing stamp rec.next) d n).outcome ≡
       lowest (append_stamp_rows rec ws stamp d n)
   append_stamp stamp =
       let m = less32 stamp.0 rec.next.0 in
@@ -236,10 +237,10 @@ module _ (rec : Record) (ws : List ℕ) (d n : ℕ) (narrow : d ≤ largest_span
 -- ---- an append and then a trim
 
 pub append_trim : (rec : Record) (ws : List ℕ) (stamp : Stamp) (d n : ℕ) (c : WideMillis) → d ≤ largest_span →
-    outcome_number (pair_answer rec ws (stamp_standing stamp rec.next) d n c).outcome ≡ lowest (pair_rows rec ws stamp d n c)
+    answer_number (pair_answer rec ws (stamp_standing stamp rec.next) d n c).outcome ≡ lowest (pair_rows rec ws stamp d n c)
 unfolding pair_outcome
 append_trim rec ws stamp d n c narrow =
-    ap outcome_number (told (pair_outcome rec ws st d n c) _ _) ∙
+    ap answer_number (told (pair_outcome rec ws st d n c) _ _) ∙
     go (agrees rec ws) refl (leb c.0 largest_millis) ∙
     ap (λ b. lowest ((not (agrees rec ws), 2) ∷ (b, 10) ∷ rows)) (over c.0 largest_millis).is
   where
@@ -250,11 +251,11 @@ append_trim rec ws stamp d n c narrow =
     rows = given_rows rec ws (stamp_after rec stamp) (stamp_before rec stamp) d n
 
     go : (a : Bool) → agrees rec ws ≡ a → (b : Bool) →
-        outcome_number (cond a (cond b (append_outcome rec ws st d n) (Refused refusal.ClockLimit)) (Refused refusal.Disagreement)) ≡
+        answer_number (cond a (cond b (append_outcome rec ws st d n) (Err refusal.ClockLimit)) (Err refusal.Disagreement)) ≡
         lowest ((not a, 2) ∷ (not b, 10) ∷ rows)
     go false e b = refl
     go true e false = refl
     go true e true =
-        sym (ap outcome_number (told (append_outcome rec ws st d n) _ _)) ∙
+        sym (ap answer_number (told (append_outcome rec ws st d n) _ _)) ∙
         append_stamp rec ws d n narrow stamp ∙
         ap (λ a. lowest ((not a, 2) ∷ rows)) e

@@ -8,11 +8,8 @@ use lib.Dec.{eqb, leb, ltb}
 use Rattle.units.specs.declared.WideTick.{WideTick}
 use Rattle.units.specs.declared.WideMillis.{WideMillis}
 use Rattle.units.specs.declared.WideNumber.{WideNumber}
-use Rattle.units.specs.declared.TickMade.TheVariants as tick
-use Rattle.units.specs.declared.MillisMade.TheVariants as millis
-use Rattle.units.specs.declared.TimescaleMade.TheVariants as timescale
-use Rattle.units.specs.declared.SpanMade.TheVariants as span
-use Rattle.units.specs.declared.NumberMade.TheVariants as number
+use Rattle.std.specs.Prelude.{Err, None, Ok, Some}
+use Rattle.keeping.specs.Keeping.{Outcome}
 use Rattle.units.specs.declared.standing.Standing.{Standing}
 use Rattle.units.specs.declared.standing.Standing.TheVariants.{Joins, Gap, Overlap}
 use Rattle.units.specs.Limits.{largest_tick, largest_millis, largest_timescale, largest_span, largest_number, tick_made, millis_made, timescale_made, span_made, number_made, tick_of}
@@ -20,14 +17,11 @@ use Rattle.units.specs.Limits.{tick_held, millis_held, timescale_held, number_he
 use Rattle.units.specs.Limits.{tick_number, millis_number, clock_number, timescale_number, span_number, first_number, asked_number}
 use Rattle.units.specs.Standing.{standing_number}
 use Rattle.window.specs.declared.HeadFields.{HeadFields}
-use Rattle.window.specs.declared.HeadMade.TheVariants as head
 use Rattle.window.specs.Limits.{head_held, head_of, head_made, head_number}
 use Rattle.agreement.specs.declared.Record.{Record}
 use Rattle.agreement.specs.declared.refusal.Refusal.TheVariants as refusal
 use Rattle.agreement.specs.Agreement.{agrees}
-use Rattle.keeping.specs.declared.Outcome.{Outcome}
-use Rattle.keeping.specs.declared.Outcome.TheVariants.{Accepted, Refused}
-use Rattle.keeping.specs.Keeping.{outcome_number}
+use Rattle.agreement.specs.Numbers.{answer_number}
 use Rattle.keeping.specs.Append.{fit_outcome}
 use Rattle.keeping.proofs.Outcomes.{outcome_beside as told}
 use Rattle.timeline.specs.Opening.{open_outcome, open_answer}
@@ -35,11 +29,6 @@ use Rattle.timeline.specs.Appending.{unjoined◌else◌, append_outcome, append_
 use Rattle.timeline.specs.Trimming.{trim_answer}
 use Rattle.timeline.specs.Pair.{pair_outcome, pair_answer}
 use Rattle.answers.specs.Judgement.{verdict_at}
-use Rattle.answers.specs.Numbers.{verdict_number}
-use Rattle.lookups.specs.declared.Numbered.TheVariants.{Missing}
-use Rattle.lookups.specs.declared.Availability.TheVariants as availability
-use Rattle.lookups.specs.declared.AvailableAt.TheVariants as at
-use Rattle.lookups.specs.Numbers.{availability_number, available_number}
 use Rattle.lookups.specs.Available.{kept_number, number_availability, number_available, availability_in, available_in}
 use Rattle.lookups.proofs.Numbering.{number_over}
 use Rattle.laws.specs.Refusals.{lowest}
@@ -52,7 +41,7 @@ use Rattle.laws.proofs.Refusals.{refusals}
 ticks : (n : ℕ) → tick_number (tick_made n) ≡ lowest ((ltb largest_tick n, 1) ∷ [])
 ticks n = by (leb n largest_tick) ∙ ap (λ b. lowest ((b, 1) ∷ [])) (over n largest_tick).is
   where
-    by : (b : Bool) → tick_number (cond b (tick.Made (record { 0 = n })) tick.Refused) ≡ cond (not b) 1 0
+    by : (b : Bool) → tick_number (cond b (Some (record { 0 = n })) None) ≡ cond (not b) 1 0
     by true = refl
     by false = refl
 
@@ -60,7 +49,7 @@ timescales : (n : ℕ) → timescale_number (timescale_made n) ≡ lowest ((eqb 
 timescales n =
     by (leb 1 n) (leb n largest_timescale) ∙ ap₂ (λ a b. lowest ((a, 1) ∷ (b, 1) ∷ [])) (none n).is (over n largest_timescale).is
   where
-    by : (a b : Bool) → timescale_number (cond (a && b) (timescale.Made (record { 0 = n })) timescale.Refused) ≡ cond (not a) 1 (cond (not b) 1 0)
+    by : (a b : Bool) → timescale_number (cond (a && b) (Some (record { 0 = n })) None) ≡ cond (not a) 1 (cond (not b) 1 0)
     by true true = refl
     by true false = refl
     by false b = refl
@@ -68,21 +57,21 @@ timescales n =
 heads : (n : ℕ) → millis_number (millis_made n) ≡ lowest ((ltb largest_millis n, 1) ∷ [])
 heads n = by (leb n largest_millis) ∙ ap (λ b. lowest ((b, 1) ∷ [])) (over n largest_millis).is
   where
-    by : (b : Bool) → millis_number (cond b (millis.Made (record { 0 = n })) millis.Refused) ≡ cond (not b) 1 0
+    by : (b : Bool) → millis_number (cond b (Some (record { 0 = n })) None) ≡ cond (not b) 1 0
     by true = refl
     by false = refl
 
 clocks : (n : ℕ) → clock_number (millis_made n) ≡ lowest ((ltb largest_millis n, 10) ∷ [])
 clocks n = by (leb n largest_millis) ∙ ap (λ b. lowest ((b, 10) ∷ [])) (over n largest_millis).is
   where
-    by : (b : Bool) → clock_number (cond b (millis.Made (record { 0 = n })) millis.Refused) ≡ cond (not b) 10 0
+    by : (b : Bool) → clock_number (cond b (Some (record { 0 = n })) None) ≡ cond (not b) 10 0
     by true = refl
     by false = refl
 
 spans : (n : ℕ) → span_number (span_made n) ≡ lowest ((eqb n 0, 3) ∷ (ltb largest_span n, 3) ∷ [])
 spans n = by (leb 1 n) (leb n largest_span) ∙ ap₂ (λ a b. lowest ((a, 3) ∷ (b, 3) ∷ [])) (none n).is (over n largest_span).is
   where
-    by : (a b : Bool) → span_number (cond (a && b) (span.Made (record { 0 = n })) span.Refused) ≡ cond (not a) 3 (cond (not b) 3 0)
+    by : (a b : Bool) → span_number (cond (a && b) (Some (record { 0 = n })) None) ≡ cond (not a) 3 (cond (not b) 3 0)
     by true true = refl
     by true false = refl
     by false b = refl
@@ -90,14 +79,14 @@ spans n = by (leb 1 n) (leb n largest_span) ∙ ap₂ (λ a b. lowest ((a, 3) �
 firsts : (n : ℕ) → first_number (number_made n) ≡ lowest ((ltb largest_number n, 1) ∷ [])
 firsts n = by (leb n largest_number) ∙ ap (λ b. lowest ((b, 1) ∷ [])) (over n largest_number).is
   where
-    by : (b : Bool) → first_number (cond b (number.Made (record { 0 = n })) number.Refused) ≡ cond (not b) 1 0
+    by : (b : Bool) → first_number (cond b (Some (record { 0 = n })) None) ≡ cond (not b) 1 0
     by true = refl
     by false = refl
 
 numbers : (n : ℕ) → asked_number (number_made n) ≡ lowest ((ltb largest_number n, 13) ∷ [])
 numbers n = by (leb n largest_number) ∙ ap (λ b. lowest ((b, 13) ∷ [])) (over n largest_number).is
   where
-    by : (b : Bool) → asked_number (cond b (number.Made (record { 0 = n })) number.Refused) ≡ cond (not b) 13 0
+    by : (b : Bool) → asked_number (cond b (Some (record { 0 = n })) None) ≡ cond (not b) 13 0
     by true = refl
     by false = refl
 
@@ -112,15 +101,15 @@ fields f =
     (number_held (head_of f).first) (millis_held (head_of f).update)
   where
     by : (t o s d p n u : Bool) →
-        head_number (cond (t && o && s && d && p && n && u) (head.Made (head_of f)) head.Refused) ≡
+        head_number (cond (t && o && s && d && p && n && u) (Some (head_of f)) None) ≡
         first_refusal
-        (timescale_number (cond t (timescale.Made (head_of f).timescale) timescale.Refused) ∷
-        tick_number (cond o (tick.Made (head_of f).offset) tick.Refused) ∷
-        millis_number (cond s (millis.Made (head_of f).start) millis.Refused) ∷
-        millis_number (cond d (millis.Made (head_of f).duration) millis.Refused) ∷
-        millis_number (cond p (millis.Made (head_of f).depth) millis.Refused) ∷
-        first_number (cond n (number.Made (head_of f).first) number.Refused) ∷
-        millis_number (cond u (millis.Made (head_of f).update) millis.Refused) ∷
+        (timescale_number (cond t (Some (head_of f).timescale) None) ∷
+        tick_number (cond o (Some (head_of f).offset) None) ∷
+        millis_number (cond s (Some (head_of f).start) None) ∷
+        millis_number (cond d (Some (head_of f).duration) None) ∷
+        millis_number (cond p (Some (head_of f).depth) None) ∷
+        first_number (cond n (Some (head_of f).first) None) ∷
+        millis_number (cond u (Some (head_of f).update) None) ∷
         [])
     by false o s d p n u = refl
     by true false s d p n u = refl
@@ -132,12 +121,12 @@ fields f =
     by true true true true true true true = refl
 
 opens : (f : HeadFields) (t : WideTick) →
-    outcome_number (open_answer (head_of f) (tick_of t)).outcome ≡ first_refusal (head_number (head_made f) ∷ tick_number (tick_made t.0) ∷ [])
+    answer_number (open_answer (head_of f) (tick_of t)).outcome ≡ first_refusal (head_number (head_made f) ∷ tick_number (tick_made t.0) ∷ [])
 unfolding open_outcome
-opens f t = ap outcome_number (told (open_outcome (head_of f) (tick_of t)) _ _) ∙ by (head_held (head_of f)) (tick_held (tick_of t))
+opens f t = ap answer_number (told (open_outcome (head_of f) (tick_of t)) _ _) ∙ by (head_held (head_of f)) (tick_held (tick_of t))
   where
-    by : (b c : Bool) → outcome_number (cond (b && c) Accepted (Refused refusal.OverLimit)) ≡
-        first_refusal (head_number (cond b (head.Made (head_of f)) head.Refused) ∷ tick_number (cond c (tick.Made (tick_of t)) tick.Refused) ∷ [])
+    by : (b c : Bool) → answer_number (cond {A = Outcome} (b && c) (Ok tt) (Err refusal.OverLimit)) ≡
+        first_refusal (head_number (cond b (Some (head_of f)) None) ∷ tick_number (cond c (Some (tick_of t)) None) ∷ [])
     by true true = refl
     by true false = refl
     by false c = refl
@@ -153,48 +142,48 @@ last n = go (eqb n 0) refl
     go false e = refl
 
 appends : (rec : Record) (ws : List ℕ) (st : Standing) (d n : ℕ) → d ≤ largest_span →
-    outcome_number (append_answer rec ws st d n).outcome ≡
-    first_refusal (disagreement rec ws ∷ span_number (span_made d) ∷ cond (eqb n 0) 3 0 ∷ standing_number st ∷ outcome_number (fit_outcome rec ws d n) ∷ [])
+    answer_number (append_answer rec ws st d n).outcome ≡
+    first_refusal (disagreement rec ws ∷ span_number (span_made d) ∷ cond (eqb n 0) 3 0 ∷ standing_number st ∷ answer_number (fit_outcome rec ws d n) ∷ [])
 unfolding append_outcome
 appends rec ws st d n l =
-    ap outcome_number (told (append_outcome rec ws st d n) _ _) ∙
+    ap answer_number (told (append_outcome rec ws st d n) _ _) ∙
     by (agrees rec ws) (eqb d 0) (eqb n 0) st (fit_outcome rec ws d n) ∙
-    ap (λ (k : ℕ). first_refusal (disagreement rec ws ∷ k ∷ cond (eqb n 0) 3 0 ∷ standing_number st ∷ outcome_number (fit_outcome rec ws d n) ∷ []))
+    ap (λ (k : ℕ). first_refusal (disagreement rec ws ∷ k ∷ cond (eqb n 0) 3 0 ∷ standing_number st ∷ answer_number (fit_outcome rec ws d n) ∷ []))
     (sym (spans d ∙ ap (λ b. lowest ((eqb d 0, 3) ∷ (b, 3) ∷ [])) (le-ltb largest_span d l)))
   where
     by : (a y z : Bool) (st : Standing) (o : Outcome) →
-        outcome_number (cond a (cond (y || z) (Refused refusal.NothingGiven) (unjoined st else o)) (Refused refusal.Disagreement)) ≡
-        first_refusal (cond a 0 2 ∷ cond y 3 0 ∷ cond z 3 0 ∷ standing_number st ∷ outcome_number o ∷ [])
+        answer_number (cond a (cond (y || z) (Err refusal.NothingGiven) (unjoined st else o)) (Err refusal.Disagreement)) ≡
+        first_refusal (cond a 0 2 ∷ cond y 3 0 ∷ cond z 3 0 ∷ standing_number st ∷ answer_number o ∷ [])
     by false y z st o = refl
     by true true z st o = refl
     by true false true st o = refl
-    by true false false Joins o = last (outcome_number o)
+    by true false false Joins o = last (answer_number o)
     by true false false (Gap d) o = refl
     by true false false (Overlap d) o = refl
 
 -- ---- at a clock
 
 pairs : (rec : Record) (ws : List ℕ) (st : Standing) (d n : ℕ) (c : WideMillis) → d ≤ largest_span →
-    outcome_number (pair_answer rec ws st d n c).outcome ≡
+    answer_number (pair_answer rec ws st d n c).outcome ≡
     first_refusal
     (disagreement rec ws ∷ clock_number (millis_made c.0) ∷ span_number (span_made d) ∷ cond (eqb n 0) 3 0 ∷ standing_number st ∷
-    outcome_number (fit_outcome rec ws d n) ∷ [])
+    answer_number (fit_outcome rec ws d n) ∷ [])
 unfolding pair_outcome
-pairs rec ws st d n c l = ap outcome_number (told (pair_outcome rec ws st d n c) _ _) ∙ go (agrees rec ws) refl (leb c.0 largest_millis)
+pairs rec ws st d n c l = ap answer_number (told (pair_outcome rec ws st d n c) _ _) ∙ go (agrees rec ws) refl (leb c.0 largest_millis)
   where
     rest : List ℕ
-    rest = span_number (span_made d) ∷ cond (eqb n 0) 3 0 ∷ standing_number st ∷ outcome_number (fit_outcome rec ws d n) ∷ []
+    rest = span_number (span_made d) ∷ cond (eqb n 0) 3 0 ∷ standing_number st ∷ answer_number (fit_outcome rec ws d n) ∷ []
 
     go : (a : Bool) → agrees rec ws ≡ a → (b : Bool) →
-        outcome_number (cond a (cond b (append_outcome rec ws st d n) (Refused refusal.ClockLimit)) (Refused refusal.Disagreement)) ≡
-        first_refusal (cond a 0 2 ∷ clock_number (cond b (millis.Made (record { 0 = c.0 })) millis.Refused) ∷ rest)
+        answer_number (cond a (cond b (append_outcome rec ws st d n) (Err refusal.ClockLimit)) (Err refusal.Disagreement)) ≡
+        first_refusal (cond a 0 2 ∷ clock_number (cond b (Some (record { 0 = c.0 })) None) ∷ rest)
     go false e b = refl
     go true e false = refl
     go true e true =
-        sym (ap outcome_number (told (append_outcome rec ws st d n) _ _)) ∙ appends rec ws st d n l ∙ ap (λ a. first_refusal (cond a 0 2 ∷ rest)) e
+        sym (ap answer_number (told (append_outcome rec ws st d n) _ _)) ∙ appends rec ws st d n l ∙ ap (λ a. first_refusal (cond a 0 2 ∷ rest)) e
 
 trims : (rec : Record) (ws : List ℕ) (c : WideMillis) →
-    outcome_number (trim_answer rec ws c).outcome ≡ first_refusal (disagreement rec ws ∷ clock_number (millis_made c.0) ∷ [])
+    answer_number (trim_answer rec ws c).outcome ≡ first_refusal (disagreement rec ws ∷ clock_number (millis_made c.0) ∷ [])
 trims rec ws c =
     refusals.trim rec ws c ∙
     by (agrees rec ws) (ltb largest_millis c.0) ∙
@@ -206,7 +195,7 @@ trims rec ws c =
     by true false = refl
 
 verdicts : (rec : Record) (ws : List ℕ) (c : WideMillis) →
-    verdict_number (verdict_at rec ws c) ≡ first_refusal (disagreement rec ws ∷ clock_number (millis_made c.0) ∷ cond (ltb c.0 rec.clock.0) 11 0 ∷ [])
+    answer_number (verdict_at rec ws c) ≡ first_refusal (disagreement rec ws ∷ clock_number (millis_made c.0) ∷ cond (ltb c.0 rec.clock.0) 11 0 ∷ [])
 verdicts rec ws c =
     refusals.verdict rec ws c ∙
     by (agrees rec ws) (ltb largest_millis c.0) (ltb c.0 rec.clock.0) ∙
@@ -220,29 +209,29 @@ verdicts rec ws c =
 
 -- ---- of a number that is refused
 
-module _ (rec : Record) (ws : List ℕ) (n : WideNumber) (k : number_made n.0 ≡ number.Refused) where
-  missing : agrees rec ws ≡ true → kept_number rec ws n.0 ≡ Missing
+module _ (rec : Record) (ws : List ℕ) (n : WideNumber) (k : number_made n.0 ≡ None) where
+  missing : agrees rec ws ≡ true → kept_number rec ws n.0 ≡ None
   missing a = sym (number_over rec ws a n.0 (number_made n.0) refl k)
 
-  availabilities : availability_number (availability_in rec ws n) ≡ first_refusal (disagreement rec ws ∷ asked_number (number_made n.0) ∷ [])
+  availabilities : answer_number (availability_in rec ws n) ≡ first_refusal (disagreement rec ws ∷ asked_number (number_made n.0) ∷ [])
   availabilities = go (agrees rec ws) refl ∙ ap (λ (m : ℕ). first_refusal (disagreement rec ws ∷ m ∷ [])) (sym (ap asked_number k))
     where
       go : (a : Bool) → agrees rec ws ≡ a →
-          availability_number (cond a (number_availability rec.head (kept_number rec ws n.0)) (availability.Refused refusal.Disagreement)) ≡ first_refusal (cond a 0 2 ∷ 13 ∷ [])
-      go true e = ap (λ x. availability_number (number_availability rec.head x)) (missing e)
+          answer_number (cond a (number_availability rec.head (kept_number rec ws n.0)) (Err refusal.Disagreement)) ≡ first_refusal (cond a 0 2 ∷ 13 ∷ [])
+      go true e = ap (λ x. answer_number (number_availability rec.head x)) (missing e)
       go false e = refl
 
   availables : (c : WideMillis) →
-      available_number (available_in rec ws n c) ≡ first_refusal (disagreement rec ws ∷ clock_number (millis_made c.0) ∷ asked_number (number_made n.0) ∷ [])
+      answer_number (available_in rec ws n c) ≡ first_refusal (disagreement rec ws ∷ clock_number (millis_made c.0) ∷ asked_number (number_made n.0) ∷ [])
   availables c =
       go (agrees rec ws) refl (leb c.0 largest_millis) ∙
       ap (λ (m : ℕ). first_refusal (disagreement rec ws ∷ clock_number (millis_made c.0) ∷ m ∷ [])) (sym (ap asked_number k))
     where
       go : (a : Bool) → agrees rec ws ≡ a → (l : Bool) →
-          available_number
-          (cond a (cond l (number_available rec.head c.0 (kept_number rec ws n.0)) (at.Refused refusal.ClockLimit)) (at.Refused refusal.Disagreement)) ≡
-          first_refusal (cond a 0 2 ∷ clock_number (cond l (millis.Made (record { 0 = c.0 })) millis.Refused) ∷ 13 ∷ [])
-      go true e true = ap (λ x. available_number (number_available rec.head c.0 x)) (missing e)
+          answer_number
+          (cond a (cond l (number_available rec.head c.0 (kept_number rec ws n.0)) (Err refusal.ClockLimit)) (Err refusal.Disagreement)) ≡
+          first_refusal (cond a 0 2 ∷ clock_number (cond l (Some (record { 0 = c.0 })) None) ∷ 13 ∷ [])
+      go true e true = ap (λ x. answer_number (number_available rec.head c.0 x)) (missing e)
       go true e false = refl
       go false e l = refl
 

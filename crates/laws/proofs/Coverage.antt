@@ -1,5 +1,6 @@
 -- Trimming never costs coverage: by what a trim keeps (`OnlySpent`) and what a list of calls keeps (demand 3), and by one law of the window, that a
 -- reference in which a needed tick lies is needed itself. And the cases by hand.
+use Rattle.agreement.specs.Numbers.{answer_number}
 use mathlib.Core.Path.{◌≡◌, refl, sym, ap, ap₂, subst⁻¹, ◌∙◌}
 use mathlib.Core.Bool.{Bool, true, false, cond}
 use mathlib.Core.List.{List, [], ◌∷◌}
@@ -17,7 +18,6 @@ use Rattle.units.specs.declared.WideNumber.{WideNumber}
 use Rattle.units.specs.Limits.{largest_millis, clock_held}
 use Rattle.window.specs.declared.Head.{Head}
 use Rattle.window.specs.declared.Reference.{Reference}
-use Rattle.window.specs.declared.Needed.TheVariants as needed
 use Rattle.window.specs.Place.{place, moment, end_known, period_end, later}
 use Rattle.window.specs.Window.{window_at, whole_period, low_edge, high_edge, tick_needed}
 use Rattle.window.specs.References.{EndToStart, Each, Sound}
@@ -28,21 +28,21 @@ use Rattle.runs.specs.Shape.{runs_shaped, zeros}
 use Rattle.runs.specs.Ends.{last_end}
 use Rattle.runs.specs.Encoding.{push, encode, table_of}
 use Rattle.runs.proofs.EndToStart.{kept_join}
+use Rattle.agreement.specs.declared.refusal.Refusal.{Refusal}
 use Rattle.agreement.specs.declared.refusal.Refusal.TheVariants.{Disagreement, ClockLimit, EarlierClock, EndUnknown, NotKept}
 use Rattle.agreement.specs.Agreement.{every, agrees}
 use Rattle.agreement.proofs.Agreeing.{agree_shaped}
-use Rattle.keeping.specs.declared.Outcome.{Outcome}
-use Rattle.keeping.specs.declared.Outcome.TheVariants as outcome
+use Rattle.std.specs.Prelude.{Some, Result, Err, Ok}
+use Rattle.keeping.specs.Keeping.{Outcome}
 use Rattle.keeping.specs.declared.Changed.{Changed}
-use Rattle.keeping.specs.Keeping.{unspent, changed_by, words_by, outcome_number}
+use Rattle.keeping.specs.Keeping.{unspent, changed_by, words_by}
 use Rattle.keeping.specs.Append.{room_outcome, fit_outcome}
 use Rattle.timeline.specs.Opening.{open_outcome}
 use Rattle.timeline.specs.Appending.{append_outcome}
 use Rattle.timeline.specs.Trimming.{trim_outcome, trim_answer, trim_table}
 use Rattle.timeline.proofs.Kept.{trim_passed}
 use Rattle.answers.specs.declared.Verdict.{Verdict}
-use Rattle.answers.specs.declared.Verdict.TheVariants.{Complete, Lacking, Refused}
-use Rattle.answers.specs.declared.CoveredEdge.TheVariants as edge
+use Rattle.answers.specs.declared.Verdict.TheVariants.{Complete, Lacking}
 use Rattle.answers.specs.Cover.{covered_by}
 use Rattle.answers.specs.Judgement.{verdict_of, verdict_at, verdict_whole}
 use Rattle.answers.specs.Shares.{verdict_percent}
@@ -50,14 +50,12 @@ use Rattle.answers.specs.Edge.{edge_of, covered_edge}
 use Rattle.answers.proofs.Cases.{asked_at}
 use Rattle.answers.proofs.Edging.{end_clock}
 use Rattle.answers.proofs.Judging.{all_covered, first_lacking, end_lacking}
-use Rattle.lookups.specs.declared.Availability.TheVariants as availability
-use Rattle.lookups.specs.declared.AvailableAt.TheVariants as at
 use Rattle.lookups.specs.Available.{numbered, kept_number, number_availability, number_available, available_in}
 use Rattle.lookups.proofs.Numbering as numbering
 use Rattle.words.specs.Words as lent
 use Rattle.words.specs.Words.{record_words, record_of}
 use Rattle.words.specs.Lengths.{wrong_record, wrong_length}
-use Rattle.words.specs.Tells.{verdict_tells}
+use Rattle.words.specs.Tells.{tells_by, words_of_verdict}
 use Rattle.words.proofs.Words.{record_words_lem}
 use Rattle.flonterri.specs.Face.{guarded, Changes, changes, trims, tells, tells_verdict}
 use Rattle.laws.specs.Calls.{Call, trim_at, Plain, State, opening, after, after_calls, outcome_of, all_accepted, greatest}
@@ -100,8 +98,8 @@ module _ (s : State) (c : WideMillis) where
   by_trim A same less = go (trim_outcome s.rec s.words c) refl
     where
       go : (o : Outcome) → trim_outcome s.rec s.words c ≡ o → A (after s (trim_at c))
-      go outcome.Accepted e = subst⁻¹ A (trim_done s c e) (less (accepts s c e))
-      go (outcome.Refused why) e = subst⁻¹ A (trim_refused s c why e) same
+      go (Ok _) e = subst⁻¹ A (trim_done s c e) (less (accepts s c e))
+      go (Err why) e = subst⁻¹ A (trim_refused s c why e) same
 
   module _ (d : WideMillis) (l : c.0 ≤ d.0) where
     covered : s.rec.clock.0 ≤ d.0 → (k : ℕ) → tick_needed s.rec.head (at_clock s.rec d) k ≡ true → covered_by (kept_by (after s (trim_at c))) k ≡ covered_by (kept_by s) k
@@ -115,26 +113,26 @@ module _ (s : State) (c : WideMillis) where
         judge : List Reference → Verdict
         judge rs = verdict_of s.rec.head (at_clock s.rec d) rs
 
-        answer : Bool → Verdict → Verdict
-        answer agreed v = cond agreed (cond (clock_held d) v (Refused ClockLimit)) (Refused Disagreement)
+        answer : Bool → Result Verdict Refusal → Result Verdict Refusal
+        answer agreed v = cond agreed (cond (clock_held d) v (Err ClockLimit)) (Err Disagreement)
 
         -- a clock that is before the greatest one is so with the trim too, and one that is not before it is not before the trim's either
         by_clock : Accepts s c → (b : Bool) → leb s.rec.clock.0 d.0 ≡ b →
-            cond (leb (max s.rec.clock.0 c.0) d.0) (judge (kept_by (trim_leaves s c))) (Refused EarlierClock) ≡ cond (leb s.rec.clock.0 d.0) (judge (kept_by s)) (Refused EarlierClock)
+            cond (leb (max s.rec.clock.0 c.0) d.0) (Ok (judge (kept_by (trim_leaves s c)))) (Err EarlierClock) ≡ cond (leb s.rec.clock.0 d.0) (Ok (judge (kept_by s))) (Err EarlierClock)
         by_clock a true e =
             let m : max s.rec.clock.0 c.0 ≤ d.0 = max-le (leb-true s.rec.clock.0 d.0 e) l in
-            ap₂ (λ b v. cond b v (Refused EarlierClock)) (le-leb (max s.rec.clock.0 c.0) d.0 m ∙ sym e)
+            ap₂ (λ b v. cond b (Ok v) (Err EarlierClock)) (le-leb (max s.rec.clock.0 c.0) d.0 m ∙ sym e)
             (still_judged s c a d.0 m)
         by_clock a false e =
             let m : d.0 < max s.rec.clock.0 c.0 = lt_of_lt_of_le (leb-false s.rec.clock.0 d.0 e) (le-max_left s.rec.clock.0 c.0) in
-            ap (λ b. cond b (judge (kept_by (trim_leaves s c))) (Refused EarlierClock)) (lt-leb (max s.rec.clock.0 c.0) d.0 m) ∙
-            sym (ap (λ b. cond b (judge (kept_by s)) (Refused EarlierClock)) e)
+            ap (λ b. cond b (Ok (judge (kept_by (trim_leaves s c)))) (Err EarlierClock)) (lt-leb (max s.rec.clock.0 c.0) d.0 m) ∙
+            sym (ap (λ b. cond b (Ok (judge (kept_by s))) (Err EarlierClock)) e)
 
   -- at a clock before it
-  refused_before : (d : WideMillis) → outcome_of s (trim_at c) ≡ outcome.Accepted → d.0 < c.0 → verdict_in (after s (trim_at c)) d ≡ Refused EarlierClock
+  refused_before : (d : WideMillis) → outcome_of s (trim_at c) ≡ Ok tt → d.0 < c.0 → verdict_in (after s (trim_at c)) d ≡ Err EarlierClock
   refused_before d e l =
-      let o : trim_outcome s.rec s.words c ≡ outcome.Accepted = answered s (trim_at c) ∙ e in
-      subst⁻¹ (λ x. verdict_in x d ≡ Refused EarlierClock) (trim_done s c o)
+      let o : trim_outcome s.rec s.words c ≡ Ok tt = answered s (trim_at c) ∙ e in
+      subst⁻¹ (λ x. verdict_in x d ≡ Err EarlierClock) (trim_done s c o)
       ((refused_at_lem (trim_leaves s c).rec (trim_leaves s c).words d EarlierClock).if
       (early (accepts s c o).leaves (le_trans (le_of_lt l) (trim_passed s.rec s.words c o).1) (lt_of_lt_of_le l (le-max_right s.rec.clock.0 c.0))))
 
@@ -143,18 +141,19 @@ module _ (s : State) (c : WideMillis) where
   same_whole : s.rec.head.depth.0 ≡ 0 → verdict_whole (after s (trim_at c)).rec (after s (trim_at c)).words ≡ verdict_whole s.rec s.words
   same_whole z =
       by_trim (λ x. verdict_whole x.rec x.words ≡ verdict_whole s.rec s.words) refl
-      (λ a. ap₂ (λ b v. cond b v (Refused Disagreement)) (a.leaves ∙ sym a.agreed) (by_end a (end_known s.rec.head) refl))
+      (λ a. ap₂ (λ b v. cond b v (Err Disagreement)) (a.leaves ∙ sym a.agreed) (by_end a (end_known s.rec.head) refl))
     where
       judge : List Reference → Verdict
       judge rs = verdict_of s.rec.head (whole_period s.rec.head) rs
 
-      by_end : Accepts s c → (b : Bool) → end_known s.rec.head ≡ b → cond b (judge (kept_by (trim_leaves s c))) (Refused EndUnknown) ≡ cond b (judge (kept_by s)) (Refused EndUnknown)
+      by_end : Accepts s c → (b : Bool) → end_known s.rec.head ≡ b → cond b (Ok (judge (kept_by (trim_leaves s c)))) (Err EndUnknown) ≡ cond b (Ok (judge (kept_by s))) (Err EndUnknown)
       by_end a true e =
           let h = s.rec.head in
           let m = max s.rec.clock.0 c.0 in
           let far = m + (h.start.0 + h.duration.0) in
-          subst⁻¹ (λ w. verdict_of h w (kept_by (trim_leaves s c)) ≡ verdict_of h w (kept_by s)) (whole_is h far z e (omega arith))
-          (still_judged s c a far (omega arith))
+          ap Ok
+          (subst⁻¹ (λ w. verdict_of h w (kept_by (trim_leaves s c)) ≡ verdict_of h w (kept_by s)) (whole_is h far z e (omega arith))
+          (still_judged s c a far (omega arith)))
       by_end a false e = refl
 
   same_depth : (after s (trim_at c)).rec.head.depth.0 ≡ s.rec.head.depth.0
@@ -165,7 +164,7 @@ module _ (s : State) (c : WideMillis) where
   same_edge : covered_edge (after s (trim_at c)).rec (after s (trim_at c)).words ≡ covered_edge s.rec s.words
   same_edge =
       by_trim (λ x. covered_edge x.rec x.words ≡ covered_edge s.rec s.words) refl
-      (λ a. ap (λ b. cond b (edge_of s.rec.head s.rec.next.0) (edge.Refused Disagreement)) (a.leaves ∙ sym a.agreed))
+      (λ a. ap (λ b. cond b (Ok (edge_of s.rec.head s.rec.next.0)) (Err Disagreement)) (a.leaves ∙ sym a.agreed))
 
   first_later : first_kept s.rec ≤ first_kept (after s (trim_at c)).rec
   first_later = by_trim (λ x. first_kept s.rec ≤ first_kept x.rec) (le_refl (first_kept s.rec)) (λ a. omega arith)
@@ -194,8 +193,8 @@ module _ (s : State) (c : WideMillis) where
       let told : agrees (trim_leaves s c).rec (trim_leaves s c).words ≡ agrees s.rec s.words = a.leaves ∙ sym a.agreed in
       let same = same_number a.agreed n.0 l in
       record {
-        availability = ap₂ (λ b x. cond b (number_availability s.rec.head x) (availability.Refused Disagreement)) told same;
-        at_clock_lem = λ d. ap₂ (λ b x. cond b (cond (clock_held d) (number_available s.rec.head d.0 x) (at.Refused ClockLimit)) (at.Refused Disagreement)) told same;
+        availability = ap₂ (λ b x. cond b (number_availability s.rec.head x) (Err Disagreement)) told same;
+        at_clock_lem = λ d. ap₂ (λ b x. cond b (cond (clock_held d) (number_available s.rec.head d.0 x) (Err ClockLimit)) (Err Disagreement)) told same;
       })
 
 -- ---- any number of trims
@@ -235,17 +234,18 @@ trims_available s (c ∷ cs) n l =
 
 -- ---- from an opening on
 
-module _ (h : Head) (t : Tick) (came : List ℕ) (o : open_outcome h t ≡ outcome.Accepted) (cs : List Call) (plain : Plain cs) (d : WideMillis)
+module _ (h : Head) (t : Tick) (came : List ℕ) (o : open_outcome h t ≡ Ok tt) (cs : List Call) (plain : Plain cs) (d : WideMillis)
     (later : greatest (opening h t came) cs ≤ d.0) (held : d.0 ≤ largest_millis) where
   abbrev ended : State
   ended = after_calls (opening h t came) cs
 
-  as_if_kept : verdict_in ended d ≡ verdict_of h (window_at h d.0) (all_accepted (opening h t came) cs)
+  as_if_kept : verdict_in ended d ≡ Ok (verdict_of h (window_at h d.0) (all_accepted (opening h t came) cs))
   as_if_kept =
       let k = demand_3.holds h t came o cs plain in
       asked_at ended.rec ended.words d k.settled.agreed (le-leb d.0 largest_millis held) (le-leb ended.rec.clock.0 d.0 (omega (arith, k.clock, later))) ∙
-      ap (λ g. verdict_of g (window_at g d.0) (kept_by ended)) k.head ∙
-      picked_verdict h (greatest (opening h t came) cs) d.0 later k.exactly
+      ap Ok
+      (ap (λ g. verdict_of g (window_at g d.0) (kept_by ended)) k.head ∙
+      picked_verdict h (greatest (opening h t came) cs) d.0 later k.exactly)
 
 -- ---- from C
 
@@ -266,7 +266,7 @@ module _ (m : Memory) (c d : WideMillis) (l : c.0 ≤ d.0) (out : List ℕ) wher
       left : Bool → Changes
       left t =
           cond (eqb (cond t 0 2) 0)
-          (record { number = outcome_number new.outcome; words = lent.words_of new.rec; table = trim_table (record_of m.words) m.table c })
+          (record { number = answer_number new.outcome; words = lent.words_of new.rec; table = trim_table (record_of m.words) m.table c })
           (record { number = cond t 0 2; words = m.words; table = m.table })
 
       go : (t : Bool) → record { words = (left t).words; table = (left t).table } ≡ left_c t
@@ -277,7 +277,7 @@ module _ (m : Memory) (c d : WideMillis) (l : c.0 ≤ d.0) (out : List ℕ) wher
   unfolding tells_verdict tells lent.words_of
   c_tells false e = refl
   c_tells true e =
-      ap₂ (λ (n : ℕ) v. guarded (wrong_length n (length out) 5) (λ wrong. record { number = wrong; out = out }) (verdict_tells v out))
+      ap₂ (λ (n : ℕ) v. guarded (wrong_length n (length out) 5) (λ wrong. record { number = wrong; out = out }) (tells_by words_of_verdict v out))
       (sym (eqb-true (length m.words) record_words e))
       (ap (λ r. verdict_at r (after meant (trim_at c)).words d) (record_words_lem (after meant (trim_at c)).rec) ∙ same_verdict meant c d l)
 
@@ -300,15 +300,15 @@ state_e1 = state_of head_e 5 1 20_000 14_000 1 (4000 ∷ 4000 ∷ 4 ∷ [])
 -- each call from the state that stands before it
 record Worked : Type 0 where
   thrice : trimmed_at_each state_b (millis 18_000 ∷ millis 13_999 ∷ millis 24_000 ∷ []) ≡ state_of head_b 5 3 20_000 24_000 1 (12_000 ∷ 4000 ∷ 2 ∷ [])
-  taken : trim_of state_b 14_000 ≡ outcome.Accepted
+  taken : trim_of state_b 14_000 ≡ Ok tt
   unreached_agrees : agrees unreached.rec unreached.words ≡ true
   unreached_trim : trimming unreached 14_000 ≡ state_of head_b 5 3 12_000 14_000 1 (4000 ∷ 4000 ∷ 2 ∷ [])
   five : five_e ≡ state_e
   five_agrees : agrees state_e.rec state_e.words ≡ true
   less : trimming state_e 14_000 ≡ state_e1
   less_agrees : agrees state_e1.rec state_e1.words ≡ true
-  offered : available_in state_b.rec state_b.words (number 1) (millis 14_000) ≡ at.Yes
-  dropped : available_in state_b2.rec state_b2.words (number 1) (millis 14_000) ≡ at.Refused NotKept
+  offered : available_in state_b.rec state_b.words (number 1) (millis 14_000) ≡ Ok true
+  dropped : available_in state_b2.rec state_b2.words (number 1) (millis 14_000) ≡ Err NotKept
 
 worked : Worked
 unfolding agrees runs_of words_of repeated references_of runs_shaped zeros last_end every place moment period_end low_edge push encode table_of unspent changed_by words_by open_outcome room_outcome fit_outcome append_outcome trim_outcome trimmed_at_each numbered
@@ -330,11 +330,11 @@ worked =
 b_is : {A : Type 0} (f : State → A) (x : A) → f state_b ≡ x → f five_b ≡ x
 b_is f x e = ap f by_hand.b_state ∙ e
 
-b_without : verdict_in five_b (millis 24_000) ≡ Lacking 10_000 6000 (wide 20_000)
+b_without : verdict_in five_b (millis 24_000) ≡ Ok (Lacking 10_000 6000 (wide 20_000))
 unfolding moment period_end low_edge high_edge
 b_without =
-    b_is (λ s. verdict_in s (millis 24_000)) (Lacking 10_000 6000 (wide 20_000))
-    (by_clock state_b.rec state_b.words agreed.b one_run (millis 24_000) refl refl (needed.Ticks (wide 14_000) (wide 24_000)) (Lacking 10_000 6000 (wide 20_000))
+    b_is (λ s. verdict_in s (millis 24_000)) (Ok (Lacking 10_000 6000 (wide 20_000)))
+    (by_clock state_b.rec state_b.words agreed.b one_run (millis 24_000) refl refl (Some (record { first = wide 14_000; end = wide 24_000 })) (Lacking 10_000 6000 (wide 20_000))
     (window_ticks head_b 24_000 (lit< tt))
     (end_lacking 14_000 24_000 0 20_000 (lit< tt) 14_000 20_000 refl refl (eqb-false 6000 10_000 refl) (lit< tt) (lit≤ tt)))
 
@@ -350,7 +350,7 @@ third_start h t (a ∷ []) j s l = let z : ⊥ = omega arith in absurd z
 third_start h t (a ∷ b ∷ []) j s l = let z : ⊥ = omega arith in absurd z
 third_start h t (a ∷ b ∷ r ∷ rs) j s l = omega (arith, j.1.0, j.1.1.0, s.0.lasts, s.1.0.lasts)
 
-x_unreached : (h : Head) (t : Tick) (came : List ℕ) → open_outcome h t ≡ outcome.Accepted → (cs : List Call) → Plain cs → after_calls (opening h t came) cs ≡ unreached → ⊥
+x_unreached : (h : Head) (t : Tick) (came : List ℕ) → open_outcome h t ≡ Ok tt → (cs : List Call) → Plain cs → after_calls (opening h t came) cs ≡ unreached → ⊥
 unfolding first_start runs_of repeated references_of
 x_unreached h t came o cs plain e =
     let k = demand_3.holds h t came o cs plain in
@@ -361,10 +361,10 @@ x_unreached h t came o cs plain e =
     let z : 2 ≤ 0 = subst⁻¹ (λ rs. 2 ≤ first_start rs) kept_there late in
     omega arith
 
-x_without : verdict_in unreached (millis 14_000) ≡ Lacking 10_000 8000 (wide 12_000)
+x_without : verdict_in unreached (millis 14_000) ≡ Ok (Lacking 10_000 8000 (wide 12_000))
 unfolding moment period_end low_edge high_edge
 x_without =
-    by_clock unreached.rec unreached.words worked.unreached_agrees one_run (millis 14_000) refl refl (needed.Ticks (wide 4000) (wide 14_000)) (Lacking 10_000 8000 (wide 12_000))
+    by_clock unreached.rec unreached.words worked.unreached_agrees one_run (millis 14_000) refl refl (Some (record { first = wide 4000; end = wide 14_000 })) (Lacking 10_000 8000 (wide 12_000))
     (window_ticks head_b 14_000 (lit< tt))
     (end_lacking 4000 14_000 0 12_000 (lit< tt) 4000 12_000 refl refl (eqb-false 8000 10_000 refl) (lit< tt) (lit≤ tt))
 
@@ -394,22 +394,22 @@ coverage_stays =
       x_with = same_verdict unreached (millis 14_000) (millis 14_000) (lit≤ tt) ∙ x_without;
       before = refused_before;
       b_earlier =
-          b_is (λ s. verdict_in s (millis 13_999)) (Complete 10_000)
-          (by_clock state_b.rec state_b.words agreed.b one_run (millis 13_999) refl refl (needed.Ticks (wide 3999) (wide 13_999)) (Complete 10_000)
+          b_is (λ s. verdict_in s (millis 13_999)) (Ok (Complete 10_000))
+          (by_clock state_b.rec state_b.words agreed.b one_run (millis 13_999) refl refl (Some (record { first = wide 3999; end = wide 13_999 })) (Complete 10_000)
           (window_ticks head_b 13_999 (lit< tt))
           (all_covered 3999 13_999 0 20_000 (lit< tt) 3999 13_999 refl refl refl));
-      b_refused = refused_before five_b (millis 14_000) (millis 13_999) (b_is (λ s. trim_of s 14_000) outcome.Accepted worked.taken) (lit< tt);
+      b_refused = refused_before five_b (millis 14_000) (millis 13_999) (b_is (λ s. trim_of s 14_000) (Ok tt) worked.taken) (lit< tt);
       e_whole =
           ap (λ s. verdict_whole s.rec s.words) worked.five ∙
-          by_period state_e.rec state_e.words worked.five_agrees one_run refl (needed.Ticks (wide 0) (wide 20_000)) (Complete 20_000)
+          by_period state_e.rec state_e.words worked.five_agrees one_run refl (Some (record { first = wide 0; end = wide 20_000 })) (Complete 20_000)
           (period_ticks head_e (lit< tt))
           (all_covered 0 20_000 0 20_000 (lit< tt) 0 20_000 refl refl refl);
       e_trimmed =
           ap (λ s. verdict_whole s.rec s.words) e_trimmed ∙
-          by_period state_e1.rec state_e1.words worked.less_agrees one_run refl (needed.Ticks (wide 0) (wide 20_000)) (Lacking 20_000 16_000 (wide 0))
+          by_period state_e1.rec state_e1.words worked.less_agrees one_run refl (Some (record { first = wide 0; end = wide 20_000 })) (Lacking 20_000 16_000 (wide 0))
           (period_ticks head_e (lit< tt))
           (first_lacking 0 20_000 4000 20_000 (lit< tt) 4000 20_000 refl refl (eqb-false 16_000 20_000 refl) (lit< tt));
       whole_without_depth = trims_whole;
-      b_available = b_is (λ s. available_in s.rec s.words (number 1) (millis 14_000)) at.Yes worked.offered;
+      b_available = b_is (λ s. available_in s.rec s.words (number 1) (millis 14_000)) (Ok true) worked.offered;
       b_dropped = ap (λ s. available_in s.rec s.words (number 1) (millis 14_000)) by_hand.b_14000_alone ∙ worked.dropped;
     }

@@ -12,37 +12,35 @@ use Rattle.units.specs.Limits.{largest_span, tick_of}
 use Rattle.units.specs.Standing.{less32, tick_standing, stamp_standing}
 use Rattle.window.specs.Limits.{head_of}
 use Rattle.keeping.specs.declared.Changed.{Changed}
-use Rattle.keeping.specs.Keeping.{outcome_number, outcome_distance}
+use Rattle.agreement.specs.Numbers.{answer_distance, answer_number}
 use Rattle.timeline.specs.Opening.{open_outcome, open_answer, open_table, zero_record}
 use Rattle.timeline.specs.Appending.{append_outcome}
 use Rattle.timeline.specs.Trimming.{trim_outcome}
 use Rattle.timeline.specs.Pair.{pair_outcome}
 use Rattle.answers.specs.Judgement.{verdict_at, verdict_whole}
 use Rattle.answers.specs.Edge.{covered_edge}
-use Rattle.answers.specs.Numbers.{verdict_number, edge_number}
 use Rattle.lookups.specs.Available.{availability_in, available_in}
 use Rattle.lookups.specs.Stamps.{full_tick_in}
 use Rattle.lookups.specs.Spans.{touching_words}
-use Rattle.lookups.specs.Numbers.{availability_number, available_number, touching_number, full_tick_number}
-use Rattle.writing.specs.Writing.{write_number, write_answer, file_for}
+use Rattle.writing.specs.Writing.{write_answer, file_for}
 use Rattle.words.specs.Words.{record_of, head_with}
-use Rattle.words.specs.Tells.{verdict_tells, availability_tells, touching_tells, available_tells, full_tick_tells, edge_tells}
+use Rattle.words.specs.Tells.{tells_by, words_of_verdict, words_of_availability, words_of_touching, words_of_available, words_of_tick, words_of_edge}
 use Rattle.flonterri.specs.Face.{opens, appends, appends_stamp, appends_trim, trims, tells_verdict, tells_whole, tells_availability, tells_touching, writes, tells_available, tells_full_tick, tells_edge}
 use Rattle.flonterri.proofs.Refusing as refusing
 use Rattle.laws.specs.Refusals.{lowest, distance_with, over_limit, open_rows, append_tick_rows, append_stamp_rows, pair_rows, trim_rows, verdict_rows, whole_rows, availability_rows, touching_rows, write_rows, available_rows, full_tick_rows, edge_rows}
 use Rattle.laws.specs.Demand1.{GivesNumber, length_rows, ChangesFromC, AppendsFromC, OpensFromC, TellsC, Answers, Demand1}
 use Rattle.laws.proofs.Refusals.{refusals}
 use Rattle.laws.proofs.Distances.{tick_far, stamp_far, append_told, pair_told}
-use Rattle.laws.proofs.Answering.{appends_c, leaves_number, full_only, available_told, full_told, changing, verdict_only, availability_only, available_only, touching_only, no_part, write_leaves, reading, feeding, finishing, changes_number, tells_number, verdict_told, availability_told, touching_told, writes_number, changes_c, tells_c, length_alone, reads_c, writes_c, edge_only, edge_told}
+use Rattle.laws.proofs.Answering.{appends_c, leaves_number, only_refused, told_number, changing, no_part, write_leaves, reading, feeding, finishing, changes_number, tells_number, writes_number, changes_c, tells_c, length_alone, reads_c, writes_c}
 
 -- a number, and what is left where it refuses, of an answer that equals another
 moved : {A : Type 0} {left : Type 0} {rows : List (Bool × ℕ)} (f : A → ℕ) (x y : A) → x ≡ y → f y ≡ lowest rows → ((f x ≡ 0 → ⊥) → left) → GivesNumber (f x) rows left
 moved f x y e number left = record { number = ap f e ∙ number; refused = left }
 
 -- the distance of an append that equals another
-passed : (x y : Changed) (a b : ℕ) → x ≡ y → outcome_distance y.outcome ≡ distance_with (outcome_number y.outcome) a b →
-    outcome_distance x.outcome ≡ distance_with (outcome_number x.outcome) a b
-passed x y a b e told = ap (λ z. outcome_distance z.outcome) e ∙ told ∙ ap (λ z. distance_with (outcome_number z.outcome) a b) (sym e)
+passed : (x y : Changed) (a b : ℕ) → x ≡ y → answer_distance y.outcome ≡ distance_with (answer_number y.outcome) a b →
+    answer_distance x.outcome ≡ distance_with (answer_number x.outcome) a b
+passed x y a b e told = ap (λ z. answer_distance z.outcome) e ∙ told ∙ ap (λ z. distance_with (answer_number z.outcome) a b) (sym e)
 
 module _ (ws ts : List ℕ) (scale offset start duration depth first update tick : ℕ) where
   -- an opening is refused with 1 alone
@@ -131,14 +129,14 @@ module _ (ws ts : List ℕ) where
       let rows = verdict_rows (record_of ws) ts (record { 0 = c }) in
       let v = verdict_at (record_of ws) ts (record { 0 = c }) in
       tells_c ws 5 rows out (tells_verdict ws ts c out)
-      (tells_number ws 5 (verdict_tells v) out rows (verdict_told v out ∙ refusals.verdict (record_of ws) ts (record { 0 = c }))) (refusing.verdict_refused ws ts c out) x after e f
+      (tells_number ws 5 (tells_by words_of_verdict v) out rows (told_number words_of_verdict v out ∙ refusals.verdict (record_of ws) ts (record { 0 = c }))) (refusing.verdict_refused ws ts c out) x after e f
 
   whole_c : (out : List ℕ) (x : ℕ) (after : List ℕ) → x ≡ (tells_whole ws ts out).number → after ≡ (tells_whole ws ts out).out → TellsC x ws 5 (whole_rows (record_of ws) ts) out after
   unfolding tells_whole
   whole_c out x after e f =
       let rows = whole_rows (record_of ws) ts in
       let v = verdict_whole (record_of ws) ts in
-      tells_c ws 5 rows out (tells_whole ws ts out) (tells_number ws 5 (verdict_tells v) out rows (verdict_told v out ∙ refusals.verdict_whole_lem (record_of ws) ts))
+      tells_c ws 5 rows out (tells_whole ws ts out) (tells_number ws 5 (tells_by words_of_verdict v) out rows (told_number words_of_verdict v out ∙ refusals.verdict_whole_lem (record_of ws) ts))
       (refusing.whole_refused ws ts out) x after e f
 
   availability_c : (n : ℕ) (out : List ℤ) (x : ℕ) (after : List ℤ) → x ≡ (tells_availability ws ts n out).number → after ≡ (tells_availability ws ts n out).out →
@@ -148,7 +146,7 @@ module _ (ws ts : List ℕ) where
       let rows = availability_rows (record_of ws) ts (record { 0 = n }) in
       let v = availability_in (record_of ws) ts (record { 0 = n }) in
       tells_c ws 3 rows out (tells_availability ws ts n out)
-      (tells_number ws 3 (availability_tells v) out rows (availability_told v out ∙ refusals.availability (record_of ws) ts (record { 0 = n })))
+      (tells_number ws 3 (tells_by words_of_availability v) out rows (told_number words_of_availability v out ∙ refusals.availability (record_of ws) ts (record { 0 = n })))
       (refusing.availability_refused ws ts n out) x after e f
 
   available_c : (n c : ℕ) (out : List ℕ) (x : ℕ) (after : List ℕ) → x ≡ (tells_available ws ts n c out).number → after ≡ (tells_available ws ts n c out).out →
@@ -158,7 +156,7 @@ module _ (ws ts : List ℕ) where
       let rows = available_rows (record_of ws) ts (record { 0 = n }) (record { 0 = c }) in
       let v = available_in (record_of ws) ts (record { 0 = n }) (record { 0 = c }) in
       tells_c ws 1 rows out (tells_available ws ts n c out)
-      (tells_number ws 1 (available_tells v) out rows (available_told v out ∙ refusals.available_at (record_of ws) ts (record { 0 = n }) (record { 0 = c })))
+      (tells_number ws 1 (tells_by words_of_available v) out rows (told_number words_of_available v out ∙ refusals.available_at (record_of ws) ts (record { 0 = n }) (record { 0 = c })))
       (refusing.available_refused ws ts n c out) x after e f
 
   full_c : (stamp : ℕ) (out : List ℕ) (x : ℕ) (after : List ℕ) → x ≡ (tells_full_tick ws ts stamp out).number → after ≡ (tells_full_tick ws ts stamp out).out →
@@ -168,7 +166,7 @@ module _ (ws ts : List ℕ) where
       let rows = full_tick_rows (record_of ws) ts in
       let v = full_tick_in (record_of ws) ts (record { 0 = stamp }) in
       tells_c ws 2 rows out (tells_full_tick ws ts stamp out)
-      (tells_number ws 2 (full_tick_tells v) out rows (full_told v out ∙ refusals.full_tick_lem (record_of ws) ts (record { 0 = stamp })))
+      (tells_number ws 2 (tells_by words_of_tick v) out rows (told_number words_of_tick v out ∙ refusals.full_tick_lem (record_of ws) ts (record { 0 = stamp })))
       (refusing.full_refused ws ts stamp out) x after e f
 
   touching_c : (a b : ℕ) (out : List ℕ) (x : ℕ) (after : List ℕ) → x ≡ (tells_touching ws ts a b out).number → after ≡ (tells_touching ws ts a b out).out →
@@ -178,7 +176,7 @@ module _ (ws ts : List ℕ) where
       let rows = touching_rows (record_of ws) ts (record { 0 = a }) (record { 0 = b }) in
       let v = touching_words (record_of ws) ts (record { 0 = a }) (record { 0 = b }) in
       tells_c ws 2 rows out (tells_touching ws ts a b out)
-      (tells_number ws 2 (touching_tells v) out rows (touching_told v out ∙ refusals.touching (record_of ws) ts (record { 0 = a }) (record { 0 = b })))
+      (tells_number ws 2 (tells_by words_of_touching v) out rows (told_number words_of_touching v out ∙ refusals.touching (record_of ws) ts (record { 0 = a }) (record { 0 = b })))
       (refusing.touching_refused ws ts a b out) x after e f
 
   edge_c : (out : List ℕ) (x : ℕ) (after : List ℕ) → x ≡ (tells_edge ws ts out).number → after ≡ (tells_edge ws ts out).out → TellsC x ws 2 (edge_rows (record_of ws) ts) out after
@@ -186,7 +184,7 @@ module _ (ws ts : List ℕ) where
   edge_c out x after e f =
       let rows = edge_rows (record_of ws) ts in
       let v = covered_edge (record_of ws) ts in
-      tells_c ws 2 rows out (tells_edge ws ts out) (tells_number ws 2 (edge_tells v) out rows (edge_told v out ∙ refusals.covered_edge_lem (record_of ws) ts))
+      tells_c ws 2 rows out (tells_edge ws ts out) (tells_number ws 2 (tells_by words_of_edge v) out rows (told_number words_of_edge v out ∙ refusals.covered_edge_lem (record_of ws) ts))
       (refusing.edge_refused ws ts out) x after e f
 
   write_c : (bytes out : List ℕ) (x : ℕ) (after line : List ℕ) → x ≡ (writes ws ts bytes out).number → after ≡ (writes ws ts bytes out).bytes → line ≡ (writes ws ts bytes out).out →
@@ -238,31 +236,31 @@ demand_1 =
       trim =
           answered (λ κs (rec, (table, (clock, _))) x e p.
           changing (trim_outcome rec table.now clock) _ rec _ table.now _ (refusals.trim rec table.now clock) x _ p.0 p.1);
-      verdict = answered (λ κs (rec, (table, (clock, _))) x e p. moved verdict_number x _ p (refusals.verdict rec table.now clock) (verdict_only x));
-      verdict_whole_lem = answered (λ κs (rec, (table, _)) x e p. moved verdict_number x _ p (refusals.verdict_whole_lem rec table.now) (verdict_only x));
+      verdict = answered (λ κs (rec, (table, (clock, _))) x e p. moved answer_number x _ p (refusals.verdict rec table.now clock) (only_refused x));
+      verdict_whole_lem = answered (λ κs (rec, (table, _)) x e p. moved answer_number x _ p (refusals.verdict_whole_lem rec table.now) (only_refused x));
       availability =
           answered (λ κs (rec, (table, (number, _))) x e p.
-          moved availability_number x _ p (refusals.availability rec table.now number) (availability_only x));
+          moved answer_number x _ p (refusals.availability rec table.now number) (only_refused x));
       available_at =
           answered (λ κs (rec, (table, (number, (clock, _)))) x e p.
-          moved available_number x _ p (refusals.available_at rec table.now number clock) (available_only x));
+          moved answer_number x _ p (refusals.available_at rec table.now number clock) (only_refused x));
       full_tick_lem =
-          answered (λ κs (rec, (table, (stamp, _))) x e p. moved full_tick_number x _ p (refusals.full_tick_lem rec table.now stamp) (full_only x));
+          answered (λ κs (rec, (table, (stamp, _))) x e p. moved answer_number x _ p (refusals.full_tick_lem rec table.now stamp) (only_refused x));
       touching_words_lem =
           answered (λ κs (rec, (table, (from, (to, _)))) x e p.
-          moved touching_number x _ p (refusals.touching rec table.now from to) (touching_only x));
+          moved answer_number x _ p (refusals.touching rec table.now from to) (only_refused x));
       touching =
           answered (λ κs (rec, (table, (from, (to, _)))) x e p k.
           p ∙ no_part (touching_words rec table.now from to) table.now (λ z. k (sym (refusals.touching rec table.now from to) ∙ z)));
-      covered_edge_lem = answered (λ κs (rec, (table, _)) x e p. moved edge_number x _ p (refusals.covered_edge_lem rec table.now) (edge_only x));
+      covered_edge_lem = answered (λ κs (rec, (table, _)) x e p. moved answer_number x _ p (refusals.covered_edge_lem rec table.now) (only_refused x));
       read = answered (λ κs (bytes, (table, _)) x e p. reading bytes.now table.now x _ p.0 p.1);
       begins = λ κs a. tt;
       feed = answered (λ κs (reader, (table, (piece, _))) x e p. feeding reader table.now piece.now x _ p.0 p.1);
       finish = answered (λ κs (reader, (table, _)) x e p. finishing reader table.now x _ p.0 p.1);
       write =
           answered (λ κs (rec, (table, (out, _))) x e p.
-          moved write_number x _ p.0 (refusals.write rec table.now (length out.now))
-          (λ k. p.1 ∙ write_leaves _ (file_for rec table.now) out.now (λ z. k (ap write_number p.0 ∙ z))));
+          moved answer_number x _ p.0 (refusals.write rec table.now (length out.now))
+          (λ k. p.1 ∙ write_leaves _ (file_for rec table.now) out.now (λ z. k (ap answer_number p.0 ∙ z))));
       desk_begins = λ κs a. tt;
       desk_feed = λ κs a. tt;
       desk_answer = λ κs a. tt;

@@ -17,17 +17,15 @@ use Rattle.agreement.specs.declared.refusal.Refusal.{Refusal}
 use Rattle.agreement.specs.declared.refusal.Refusal.TheVariants as refusal
 use Rattle.agreement.specs.Agreement.{kept, agrees}
 use Rattle.agreement.specs.Numbers.{refusal_number, refusal_distance}
-use Rattle.keeping.specs.declared.Outcome.{Outcome}
-use Rattle.keeping.specs.declared.Outcome.TheVariants as outcome
+use Rattle.std.specs.Prelude.{Err, None, Ok, Option, Result, Some}
+use Rattle.keeping.specs.Keeping.{Outcome}
 use Rattle.timeline.specs.Opening.{zero_record}
 use Rattle.answers.specs.declared.Verdict.{Verdict}
 use Rattle.answers.specs.declared.Verdict.TheVariants as verdict
 use Rattle.answers.specs.Judgement.{verdict_at, verdict_whole}
 use Rattle.frames.specs.declared.Frame.{Frame}
 use Rattle.frames.specs.declared.Frame.TheVariants as frame
-use Rattle.frames.specs.declared.UpdateField.{UpdateField}
-use Rattle.frames.specs.declared.UpdateField.TheVariants.{Absent, Of}
-use Rattle.frames.specs.Frames.{head_kind, kind_of, line_of, frame_of}
+use Rattle.frames.specs.Frames.{line_of, frame_of}
 use Rattle.hexdigits.specs.Ascii.{ascii}
 use Rattle.frames.proofs.Lines.{language}
 use Rattle.file.specs.declared.ReadAnswer.{ReadAnswer}
@@ -35,13 +33,13 @@ use Rattle.file.specs.Lines.{line_feed, has_feed, first_line, behind_first}
 use Rattle.file.specs.Judging.{read_lines, read_outcome, answered_by, read_answer, read_table}
 use Rattle.file.proofs.Clocks.{read_clock}
 use Rattle.file.proofs.Accepted.{read_agrees}
-use Rattle.report.specs.declared.ClockLine.{ClockLine}
-use Rattle.report.specs.declared.ClockLine.TheVariants as asked
-use Rattle.wording.specs.declared.Reply.TheVariants as reply
+use Rattle.report.specs.Clock.{ClockLine}
+use Rattle.report.specs.declared.Asked.{Asked}
+use Rattle.report.specs.declared.Asked.TheVariants as asked
 use Rattle.frames.specs.Fields.{all_ones}
 use Rattle.report.specs.Clock.{asked_by, asked_on}
 use Rattle.wording.specs.Text.{PercentRight, distance_text, refused_text, verdict_text, text_of}
-use Rattle.report.specs.Answer.{asked_in, reply_on, reply_in, answer_in, answer}
+use Rattle.report.specs.Answer.{judged as judged_reply, refused_at, asked_in, reply_on, reply_in, answer_in, answer}
 use Rattle.file.proofs.Cuts.{unfed_line, unfed_has, unfed_behind}
 use Rattle.wording.proofs.Figures.{figures}
 use Rattle.laws.specs.Demand2.{Completes, Lacks, NeedsNone, disagree, over, early, disagreeing, unknown, MayNotAsk, MayNotAskWhole}
@@ -109,56 +107,56 @@ module _ (input : List ℕ) (clock : ℕ) (file : List ℕ) (a : Asks input cloc
   unfolding line behind_first
   input_behind = ap behind_first a.is ∙ unfed_behind line (line_feed ∷ file) line_unfed
 
-  line_frame : frame_of (first_line input) ≡ frame.Clock (millis clock)
+  line_frame : frame_of (first_line input) ≡ Some (frame.Clock (millis clock))
   unfolding line
   line_frame =
-      ap frame_of input_line ∙ ((language.exactly line (frame.Clock (millis clock))).1 (record { known = refl; fields = (a.fits, tt) }, refl)).1
+      ap frame_of input_line ∙ (language.exactly line (frame.Clock (millis clock))).1 (record { fields = (a.fits, tt) }, refl)
 
-  input_asks : asked_in input ≡ asked_by (frame.Clock (millis clock))
+  input_asks : asked_in input ≡ Some (asked_by (Some (frame.Clock (millis clock))))
   unfolding asked_in asked_on
-  input_asks = ap₂ (λ t (f : Frame). cond t (asked_by f) asked.Unended) input_fed line_frame
+  input_asks = ap₂ (λ t (f : Option Frame). cond {A = ClockLine} t (Some (asked_by f)) None) input_fed line_frame
 
   -- the answer, by what the clock asks
-  in_table : (came : List ℕ) (what : ClockLine) → asked_by (frame.Clock (millis clock)) ≡ what →
-      (x : ReadAnswer) → read_answer file came ≡ x → (ws : List ℕ) → read_table file came ≡ ws → answer_in came input ≡ text_of (reply_on what x ws)
+  in_table : (came : List ℕ) (what : Result Asked Refusal) → asked_by (Some (frame.Clock (millis clock))) ≡ what →
+      (x : ReadAnswer) → read_answer file came ≡ x → (ws : List ℕ) → read_table file came ≡ ws → answer_in came input ≡ text_of (reply_on (Some what) x ws)
   unfolding reply_in
   in_table came what e x f ws g =
-      ap₂ (λ (y : ClockLine) (bytes : List ℕ). text_of (reply_on y (read_answer bytes came) (read_table bytes came))) (input_asks ∙ e) input_behind ∙
-      ap₂ (λ (y : ReadAnswer) (vs : List ℕ). text_of (reply_on what y vs)) f g
+      ap₂ (λ (y : ClockLine) (bytes : List ℕ). text_of (reply_on y (read_answer bytes came) (read_table bytes came))) (input_asks ∙ ap Some e) input_behind ∙
+      ap₂ (λ (y : ReadAnswer) (vs : List ℕ). text_of (reply_on (Some what) y vs)) f g
 
-  by_asked : (what : ClockLine) → asked_by (frame.Clock (millis clock)) ≡ what →
-      (x : ReadAnswer) → read_answer file lent ≡ x → (ws : List ℕ) → read_table file lent ≡ ws → answer input ≡ text_of (reply_on what x ws)
+  by_asked : (what : Result Asked Refusal) → asked_by (Some (frame.Clock (millis clock))) ≡ what →
+      (x : ReadAnswer) → read_answer file lent ≡ x → (ws : List ℕ) → read_table file lent ≡ ws → answer input ≡ text_of (reply_on (Some what) x ws)
   by_asked what e x f ws g = in_lent input ∙ in_table lent what e x f ws g
 
 -- ---- and the other way
 
-asks_of : (input : List ℕ) (c : WideMillis) → has_feed input ≡ true → frame_of (first_line input) ≡ frame.Clock c → Asks input c.0 (behind_first input)
+asks_of : (input : List ℕ) (c : WideMillis) → has_feed input ≡ true → frame_of (first_line input) ≡ Some (frame.Clock c) → Asks input c.0 (behind_first input)
 asks_of input c h e =
-    let r = (language.exactly (first_line input) (frame.Clock c)).0 (refl, e) in
+    let r = (language.exactly (first_line input) (frame.Clock c)).0 e in
     record { fits = r.0.fields.0; is = cut input h ∙ ap (λ (l : List ℕ). l ++ line_feed ∷ behind_first input) (sym r.1) }
 
 -- ---- what the clock asks
 
 module _ (clock : ℕ) where
-  ask_whole : clock ≡ all_ones → asked_by (frame.Clock (millis clock)) ≡ asked.Whole
-  ask_whole e = ap (λ t. cond t asked.Whole (cond (leb clock largest_millis) (asked.At (record { 0 = clock })) (asked.Refused refusal.ClockLimit))) (eq-eqb clock all_ones e)
+  -- by the two tests of the clock: whether it is all ones, and whether it is within its limit
+  abbrev ask_by : Bool → Bool → Result Asked Refusal
+  ask_by s t = cond s (Ok asked.Whole) (cond t (Ok (asked.At (record { 0 = clock }))) (Err refusal.ClockLimit))
 
-  ask_at : clock ≤ largest_millis → asked_by (frame.Clock (millis clock)) ≡ asked.At (record { 0 = clock })
+  ask_whole : clock ≡ all_ones → asked_by (Some (frame.Clock (millis clock))) ≡ Ok asked.Whole
+  ask_whole e = ap (λ t. ask_by t (leb clock largest_millis)) (eq-eqb clock all_ones e)
+
+  ask_at : clock ≤ largest_millis → asked_by (Some (frame.Clock (millis clock))) ≡ Ok (asked.At (record { 0 = clock }))
   ask_at l =
-      ap₂ (λ s t. cond s asked.Whole (cond t (asked.At (record { 0 = clock })) (asked.Refused refusal.ClockLimit)))
-      (ne_eqb clock all_ones (λ e. let z : ⊥ = omega arith in z))
-      (le-leb clock largest_millis l)
+      ap₂ ask_by (ne_eqb clock all_ones (λ e. let z : ⊥ = omega arith in z)) (le-leb clock largest_millis l)
 
-  ask_over : largest_millis < clock → (clock ≡ all_ones → ⊥) → asked_by (frame.Clock (millis clock)) ≡ asked.Refused refusal.ClockLimit
-  ask_over l n =
-      ap₂ (λ s t. cond s asked.Whole (cond t (asked.At (record { 0 = clock })) (asked.Refused refusal.ClockLimit))) (ne_eqb clock all_ones n)
-      (lt-leb clock largest_millis l)
+  ask_over : largest_millis < clock → (clock ≡ all_ones → ⊥) → asked_by (Some (frame.Clock (millis clock))) ≡ Err refusal.ClockLimit
+  ask_over l n = ap₂ ask_by (ne_eqb clock all_ones n) (lt-leb clock largest_millis l)
 
 -- ---- what reading comes to
 
 data Reads (x : ReadAnswer) : Type 0 where
-  reads : (rec : Record) → x ≡ record { outcome = outcome.Accepted; rec = rec; line = 0 } → Reads x
-  fails : (why : Refusal) (line : ℕ) → x ≡ record { outcome = outcome.Refused why; rec = zero_record; line = line } → Reads x
+  reads : (rec : Record) → x ≡ record { outcome = Ok tt; rec = rec; line = 0 } → Reads x
+  fails : (why : Refusal) (line : ℕ) → x ≡ record { outcome = Err why; rec = zero_record; line = line } → Reads x
 
 module _ (file came : List ℕ) where
   reading : Reads (read_answer file came)
@@ -166,36 +164,36 @@ module _ (file came : List ℕ) where
   reading = go (read_outcome file came)
     where
       go : (o : Outcome) → Reads (answered_by o (read_lines file came).reading)
-      go outcome.Accepted = reads (read_lines file came).reading.rec refl
-      go (outcome.Refused why) = fails why ((read_lines file came).reading.lines + 1) refl
+      go (Ok _) = reads (read_lines file came).reading.rec refl
+      go (Err why) = fails why ((read_lines file came).reading.lines + 1) refl
 
   read_outcome_lem : (read_answer file came).outcome ≡ read_outcome file came
   unfolding read_answer
   read_outcome_lem = go (read_outcome file came)
     where
       go : (o : Outcome) → (answered_by o (read_lines file came).reading).outcome ≡ o
-      go outcome.Accepted = refl
-      go (outcome.Refused why) = refl
+      go (Ok _) = refl
+      go (Err why) = refl
 
-  from_one : (why : Refusal) (line : ℕ) → read_answer file came ≡ record { outcome = outcome.Refused why; rec = zero_record; line = line } → 1 ≤ line
+  from_one : (why : Refusal) (line : ℕ) → read_answer file came ≡ record { outcome = Err why; rec = zero_record; line = line } → 1 ≤ line
   unfolding read_answer
   from_one why line = go (read_outcome file came)
     where
-      go : (o : Outcome) → answered_by o (read_lines file came).reading ≡ record { outcome = outcome.Refused why; rec = zero_record; line = line } → 1 ≤ line
-      go outcome.Accepted e =
-          let f : outcome.Accepted ≡ outcome.Refused why = ap (λ (x : ReadAnswer). x.outcome) e in
+      go : (o : Outcome) → answered_by o (read_lines file came).reading ≡ record { outcome = Err why; rec = zero_record; line = line } → 1 ≤ line
+      go (Ok _) e =
+          let f : (Ok tt) ≡ Err why = ap (λ (x : ReadAnswer). x.outcome) e in
           let z : ◌≡◌ {A = ℕ} 0 1 = cc in
           let y : ⊥ = omega arith in absurd y
-      go (outcome.Refused x) e = omega (arith, ap (λ (y : ReadAnswer). y.line) e)
+      go (Err x) e = omega (arith, ap (λ (y : ReadAnswer). y.line) e)
 
 -- ---- the verdict on a file that was accepted
 
 -- each case of a verdict exactly where it holds of a window, and no refusal
-record Judges (v : Verdict) (rec : Record) (ws : List ℕ) (w : Stretch) : Type 0 where
-  complete : (n : ℕ) → ExactlyWhen (v ≡ verdict.Complete n) (Completes rec.head w (kept rec ws) n)
-  lacking : (n m : ℕ) (k : WideTick) → ExactlyWhen (v ≡ verdict.Lacking n m k) (Lacks rec.head w (kept rec ws) n m k.0)
-  nothing : ExactlyWhen (v ≡ verdict.Nothing) (NeedsNone rec.head w)
-  never : (why : Refusal) → v ≡ verdict.Refused why → ⊥
+record Judges (v : Result Verdict Refusal) (rec : Record) (ws : List ℕ) (w : Stretch) : Type 0 where
+  complete : (n : ℕ) → ExactlyWhen (v ≡ Ok (verdict.Complete n)) (Completes rec.head w (kept rec ws) n)
+  lacking : (n m : ℕ) (k : WideTick) → ExactlyWhen (v ≡ Ok (verdict.Lacking n m k)) (Lacks rec.head w (kept rec ws) n m k.0)
+  nothing : ExactlyWhen (v ≡ Ok verdict.Nothing) (NeedsNone rec.head w)
+  never : (why : Refusal) → v ≡ Err why → ⊥
   percent : PercentRight v
 
 module _ (file : List ℕ) (rec : Record) (ws : List ℕ) (x : Accepts file rec ws) where
@@ -270,17 +268,21 @@ module _ (file : List ℕ) (rec : Record) (ws : List ℕ) (x : Accepts file rec 
 
 -- ---- an input that is read
 
+-- the line that tells an answered verdict
+abbrev line_told : Result Verdict Refusal → List ℕ
+line_told v = text_of (judged_reply v)
+
 record Judged (input : List ℕ) (rec : Record) (ws : List ℕ) (w : Stretch) : Type 0 where
-  v : Verdict
+  v : Result Verdict Refusal
   judges : Judges v rec ws w
-  told : answer input ≡ verdict_text v
+  told : answer input ≡ line_told v
 
 judged : (input : List ℕ) (rec : Record) (ws : List ℕ) (w : Stretch) → ReadAs input rec ws w → Judged input rec ws w
 unfolding reply_on text_of
 judged input rec ws w h = go w h.window
   where
     x : ReadAnswer
-    x = record { outcome = outcome.Accepted; rec = rec; line = 0 }
+    x = record { outcome = Ok tt; rec = rec; line = 0 }
 
     go : (w : Stretch) → Window h.clock rec w → Judged input rec ws w
     go _ (desk.at l) =
@@ -288,61 +290,63 @@ judged input rec ws w h = go w h.window
           v = verdict_at rec ws (millis h.clock);
           judges = judges_at h.file rec ws h.accepts h.clock l;
           told =
-              by_asked input h.clock h.file h.asks (asked.At (record { 0 = h.clock })) (ask_at h.clock l) x h.accepts.answer ws h.accepts.table;
+              by_asked input h.clock h.file h.asks (Ok (asked.At (record { 0 = h.clock }))) (ask_at h.clock l) x h.accepts.answer ws h.accepts.table;
         }
     go _ (desk.whole e k) =
         record {
           v = verdict_whole rec ws;
           judges = judges_whole h.file rec ws h.accepts k;
-          told = by_asked input h.clock h.file h.asks asked.Whole (ask_whole h.clock e) x h.accepts.answer ws h.accepts.table;
+          told = by_asked input h.clock h.file h.asks (Ok asked.Whole) (ask_whole h.clock e) x h.accepts.answer ws h.accepts.table;
         }
 
 -- ---- what is so is told
 
 module _ (input : List ℕ) where
   tell_complete : (n : ℕ) → Completed input n → answer input ≡ complete_line n
+  unfolding text_of
   tell_complete n c =
       let j = judged input c.rec c.ws c.w c.read in
       let e = (j.judges.complete n).if c.completes in
-      j.told ∙ ap verdict_text e ∙ complete_text n (subst PercentRight e j.judges.percent)
+      j.told ∙ ap line_told e ∙ complete_text n (subst PercentRight e j.judges.percent)
 
   tell_lacking : (n m k : ℕ) → Lacked input n m k → answer input ≡ lacking_line n m k
+  unfolding text_of
   tell_lacking n m k c =
       let j = judged input c.rec c.ws c.w c.read in
       let e = (j.judges.lacking n m (record { 0 = k })).if c.lacks in
-      j.told ∙ ap verdict_text e ∙ lacking_text n m (record { 0 = k }) (subst PercentRight e j.judges.percent)
+      j.told ∙ ap line_told e ∙ lacking_text n m (record { 0 = k }) (subst PercentRight e j.judges.percent)
 
   tell_nothing : Unneeded input → answer input ≡ nothing_line
-  unfolding verdict_text
-  tell_nothing c = let j = judged input c.rec c.ws c.w c.read in j.told ∙ ap verdict_text (j.judges.nothing.if c.none)
+  unfolding text_of verdict_text
+  tell_nothing c = let j = judged input c.rec c.ws c.w c.read in j.told ∙ ap line_told (j.judges.nothing.if c.none)
 
   -- an input that does not begin with a clock line
-  unasked : (came : List ℕ) → ((clock : ℕ) (file : List ℕ) → Asks input clock file → ⊥) → reply_in came input ≡ reply.Refused refusal.BadLine 0
+  unasked : (came : List ℕ) → ((clock : ℕ) (file : List ℕ) → Asks input clock file → ⊥) → reply_in came input ≡ refused_at refusal.BadLine 0
   unfolding reply_in reply_on asked_in asked_on
   unasked came n = go (has_feed input) refl (frame_of (first_line input)) refl
     where
-      go : (t : Bool) → has_feed input ≡ t → (f : Frame) → frame_of (first_line input) ≡ f →
-          reply_on (cond t (asked_by f) asked.Unended) (read_answer (behind_first input) came) (read_table (behind_first input) came) ≡
-          reply.Refused refusal.BadLine 0
+      go : (t : Bool) → has_feed input ≡ t → (f : Option Frame) → frame_of (first_line input) ≡ f →
+          reply_on (cond t (Some (asked_by f)) None) (read_answer (behind_first input) came) (read_table (behind_first input) came) ≡
+          refused_at refusal.BadLine 0
       go false e f g = refl
-      go true e (frame.Head h) g = refl
-      go true e (frame.S s) g = refl
-      go true e (frame.End m) g = refl
-      go true e (frame.Clock c) g = absurd (n c.0 (behind_first input) (asks_of input c e g))
-      go true e frame.Bad g = refl
+      go true e (Some (frame.Head h)) g = refl
+      go true e (Some (frame.S s)) g = refl
+      go true e (Some (frame.End m)) g = refl
+      go true e (Some (frame.Clock c)) g = absurd (n c.0 (behind_first input) (asks_of input c e g))
+      go true e None g = refl
 
   tell_refused : (number line distance : ℕ) → Refused input number line distance → answer input ≡ refused_line number line distance
   unfolding reply_on text_of verdict_text refused_text distance_text
   tell_refused _ _ _ (no_clock n) = in_lent input ∙ ap text_of (unasked lent n)
   tell_refused _ _ _ (desk.over clock file a l n) =
-      by_asked input clock file a (asked.Refused refusal.ClockLimit) (ask_over clock l n) (read_answer file lent) refl (read_table file lent) refl
-  tell_refused _ _ _ (bad_line clock file why line a (at_clock_lem l) e) =
-      by_asked input clock file a (asked.At (record { 0 = clock })) (ask_at clock l) _ e (read_table file lent) refl
-  tell_refused _ _ _ (bad_line clock file why line a (of_whole f) e) =
-      by_asked input clock file a asked.Whole (ask_whole clock f) _ e (read_table file lent) refl
+      by_asked input clock file a (Err refusal.ClockLimit) (ask_over clock l n) (read_answer file lent) refl (read_table file lent) refl
+  tell_refused _ _ _ (bad_line clock file why _ a (at_clock_lem l) e) =
+      by_asked input clock file a (Ok (asked.At (record { 0 = clock }))) (ask_at clock l) _ e (read_table file lent) refl
+  tell_refused _ _ _ (bad_line clock file why _ a (of_whole f) e) =
+      by_asked input clock file a (Ok asked.Whole) (ask_whole clock f) _ e (read_table file lent) refl
   tell_refused _ _ _ (no_end file rec ws a x f) =
-      by_asked input all_ones file a asked.Whole (ask_whole all_ones refl) _ x.answer ws x.table ∙
-      ap verdict_text ((demand_2.refused_whole rec ws refusal.EndUnknown).if (unknown (agreed file rec ws x) f))
+      by_asked input all_ones file a (Ok asked.Whole) (ask_whole all_ones refl) _ x.answer ws x.table ∙
+      ap line_told ((demand_2.refused_whole rec ws refusal.EndUnknown).if (unknown (agreed file rec ws x) f))
 
 -- ---- and what is told is so
 
@@ -354,17 +358,17 @@ module _ (input : List ℕ) where
   say_told : (rec : Record) (ws : List ℕ) (w : Stretch) → ReadAs input rec ws w → Says input (answer input)
   say_told rec ws w h = let j = judged input rec ws w h in go j.v refl
     where
-      go : (v : Verdict) → (judged input rec ws w h).v ≡ v → Says input (answer input)
-      go verdict.Nothing e =
+      go : (v : Result Verdict Refusal) → (judged input rec ws w h).v ≡ v → Says input (answer input)
+      go (Ok verdict.Nothing) e =
           let c : Unneeded input = record { rec = rec; ws = ws; w = w; read = h; none = (judged input rec ws w h).judges.nothing.only e } in
           subst⁻¹ (Says input) (tell_nothing input c) (desk.nothing c)
-      go (verdict.Complete n) e =
+      go (Ok (verdict.Complete n)) e =
           let c : Completed input n = record { rec = rec; ws = ws; w = w; read = h; completes = ((judged input rec ws w h).judges.complete n).only e } in
           subst⁻¹ (Says input) (tell_complete input n c) (desk.complete n c)
-      go (verdict.Lacking n m k) e =
+      go (Ok (verdict.Lacking n m k)) e =
           let c : Lacked input n m k.0 = record { rec = rec; ws = ws; w = w; read = h; lacks = ((judged input rec ws w h).judges.lacking n m k).only e } in
           subst⁻¹ (Says input) (tell_lacking input n m k.0 c) (desk.lacking n m k.0 c)
-      go (verdict.Refused why) e = absurd ((judged input rec ws w h).judges.never why e)
+      go (Err why) e = absurd ((judged input rec ws w h).judges.never why e)
 
   module _ (clock : ℕ) (file : List ℕ) (a : Asks input clock file) where
     say_read : Verdicts clock → Says input (answer input)
@@ -398,24 +402,19 @@ module _ (input : List ℕ) where
         go false e false f = say_refused 10 0 0 (desk.over clock file a (leb-false clock largest_millis e) (eqb-false clock all_ones f))
 
   -- a first line that is no clock's
-  other_line : (f : Frame) → frame_of (first_line input) ≡ f → (kind_of f ≡ 4 → ⊥) → Says input (answer input)
-  other_line f e n = say_refused 16 0 0 (no_clock (λ clock file a. n (ap kind_of (sym e ∙ line_frame input clock file a))))
-
-  -- a head of either kind has none of a clock
-  not_four : (u : UpdateField) → head_kind u ≡ 4 → ⊥
-  not_four Absent z = omega arith
-  not_four (Of n) z = omega arith
+  other_line : ((c : WideMillis) → frame_of (first_line input) ≡ Some (frame.Clock c) → ⊥) → Says input (answer input)
+  other_line n = say_refused 16 0 0 (no_clock (λ clock file a. n (millis clock) (line_frame input clock file a)))
 
   says : Says input (answer input)
   says = go (has_feed input) refl (frame_of (first_line input)) refl
     where
-      go : (t : Bool) → has_feed input ≡ t → (f : Frame) → frame_of (first_line input) ≡ f → Says input (answer input)
+      go : (t : Bool) → has_feed input ≡ t → (f : Option Frame) → frame_of (first_line input) ≡ f → Says input (answer input)
       go false e f g = say_refused 16 0 0 (no_clock (λ clock file a. false≢true (sym e ∙ input_fed input clock file a)))
-      go true e (frame.Head h) g = other_line (frame.Head h) g (not_four h.update)
-      go true e (frame.S s) g = other_line (frame.S s) g (λ z. omega arith)
-      go true e (frame.End m) g = other_line (frame.End m) g (λ z. omega arith)
-      go true e (frame.Clock c) g = say_asked c.0 (behind_first input) (asks_of input c e g)
-      go true e frame.Bad g = other_line frame.Bad g (λ z. omega arith)
+      go true e (Some (frame.Head h)) g = other_line (λ c z. cc)
+      go true e (Some (frame.S s)) g = other_line (λ c z. cc)
+      go true e (Some (frame.End m)) g = other_line (λ c z. cc)
+      go true e (Some (frame.Clock c)) g = say_asked c.0 (behind_first input) (asks_of input c e g)
+      go true e None g = other_line (λ c z. cc)
 
 -- ---- by the first letter of a line
 

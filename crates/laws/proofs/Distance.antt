@@ -11,8 +11,8 @@ use Rattle.units.specs.declared.Stamp.{Stamp}
 use Rattle.units.specs.declared.Tick.{Tick}
 use Rattle.units.specs.declared.WideTick.{WideTick}
 use Rattle.units.specs.declared.standing.Standing.{Standing}
-use Rattle.units.specs.declared.standing.Standing.TheVariants.{Joins, Gap, Overlap}
-use Rattle.units.specs.Standing.{less32, standing_by, standing_number, tick_standing, stamp_standing}
+use Rattle.units.specs.declared.standing.Standing.TheVariants.{Gap, Overlap}
+use Rattle.units.specs.Standing.{less32, standing_by, tick_standing, stamp_standing}
 use Rattle.units.proofs.Stamps as units
 use Rattle.window.specs.Place.{place, moment, period_end}
 use Rattle.window.specs.Window.{low_edge}
@@ -22,8 +22,8 @@ use Rattle.runs.specs.Ends.{last_end}
 use Rattle.runs.specs.Encoding.{push, encode, table_of}
 use Rattle.agreement.specs.declared.Record.{Record}
 use Rattle.agreement.specs.Agreement.{every, agrees}
-use Rattle.keeping.specs.declared.Outcome.{Outcome}
-use Rattle.keeping.specs.declared.Outcome.TheVariants.{Accepted}
+use Rattle.std.specs.Prelude.{None, Ok, Some}
+use Rattle.keeping.specs.Keeping.{Outcome}
 use Rattle.keeping.specs.Keeping.{unspent, changed_by, words_by}
 use Rattle.keeping.specs.Append.{room_outcome, fit_outcome}
 use Rattle.keeping.proofs.Outcomes.{outcome_beside as told, number_accepted}
@@ -38,7 +38,6 @@ use Rattle.frames.specs.declared.SFields.{SFields}
 use Rattle.file.specs.Lines.{lines_from, rest_from}
 use Rattle.file.specs.Least.{least_from, least_count}
 use Rattle.file.specs.Judging as judging
-use Rattle.lookups.specs.declared.stamps.FullTick.TheVariants.{Nowhere}
 use Rattle.lookups.specs.Stamps.{full_tick_in}
 use Rattle.laws.specs.Calls.{State, opening}
 use Rattle.laws.specs.Refusals.{lowest, distance_with, over_limit}
@@ -76,15 +75,6 @@ module _ (start : WideTick) (next : Tick) (d : Distance) where
 
 -- ---- a stamp
 
--- what a standing tells, by its case
-abbrev far_of : Standing → ℕ
-far_of Joins = 0
-far_of (Gap d) = d.0
-far_of (Overlap d) = d.0
-
-another : (a b : Standing) → a ≡ b → (standing_number a ≡ standing_number b → ⊥) → ⊥
-another a b e k = k (ap standing_number e)
-
 -- the distance of a stamp and the next tick together come round to the stamp, and the rest of the circle back to the tick
 comes_back : (a b : ℕ) → a < 2 ^ 32 → (a + (2 ^ 32 - less32 a b)) % 2 ^ 32 ≡ b % 2 ^ 32
 unfolding less32
@@ -102,13 +92,13 @@ module _ (s : Stamp) (next : Tick) (d : Distance) (small : s.0 < 2 ^ 32) where
     where
       go : (j : Bool) → eqb ahead 0 ≡ j → (g : Bool) → ltb ahead (2 ^ 31) ≡ g → standing j g ≡ Gap d →
           (s.0 ≡ (next.0 + d.0) % 2 ^ 32) × (1 ≤ d.0) × (d.0 < 2 ^ 31)
-      go true p g q e = absurd (another _ _ e (λ z. omega arith))
+      go true p g q e = cc
       go false p true q e =
-          let same : ahead ≡ d.0 = ap far_of e in
+          let same : ahead ≡ d.0 = cc in
           let some : ahead ≡ 0 → ⊥ = eqb-false ahead 0 p in
           let less : ahead < 2 ^ 31 = ltb-true ahead (2 ^ 31) q in
           (sym (distance_shows s.0 next.0 small) ∙ ap (λ (n : ℕ). (next.0 + n) % 2 ^ 32) same, omega arith, omega arith)
-      go false p false q e = absurd (another _ _ e (λ z. omega arith))
+      go false p false q e = cc
 
   stamp_overlap_only : stamp_standing s next ≡ Overlap d → ((s.0 + d.0) % 2 ^ 32 ≡ next.0 % 2 ^ 32) × (1 ≤ d.0) × (d.0 ≤ 2 ^ 31)
   stamp_overlap_only e = (
@@ -121,10 +111,10 @@ module _ (s : Stamp) (next : Tick) (d : Distance) (small : s.0 < 2 ^ 32) where
       behind_is = go (eqb ahead 0) (ltb ahead (2 ^ 31)) refl
         where
           go : (j g : Bool) → ltb ahead (2 ^ 31) ≡ g → standing j g ≡ Overlap d → (2 ^ 32 - ahead ≡ d.0) × (d.0 ≤ 2 ^ 31)
-          go true g q f = absurd (another _ _ f (λ z. omega arith))
-          go false true q f = absurd (another _ _ f (λ z. omega arith))
+          go true g q f = cc
+          go false true q f = cc
           go false false q f =
-              let same : 2 ^ 32 - ahead ≡ d.0 = ap far_of f in
+              let same : 2 ^ 32 - ahead ≡ d.0 = cc in
               let more : 2 ^ 31 ≤ ahead = ltb-false ahead (2 ^ 31) q in
               (same, omega arith)
 
@@ -148,7 +138,7 @@ stamp_half start next e = (
 )
 
 passed_by : (rec : Record) (ws : List ℕ) (s : Stamp) (d : Distance) → s.0 < 2 ^ 32 → agrees rec ws ≡ true →
-    stamp_standing s rec.next ≡ Overlap d → rec.next.0 < d.0 → full_tick_in rec ws s ≡ Nowhere
+    stamp_standing s rec.next ≡ Overlap d → rec.next.0 < d.0 → full_tick_in rec ws s ≡ Ok None
 passed_by rec ws s d small a e l =
     let o = stamp_overlap_only s rec.next d small e in
     (full_tick_right.nowhere rec ws s small a).if (λ t p. none t.0 s.0 d.0 rec.next.0 p.low o.0 o.2 p.ahead l)
@@ -172,7 +162,7 @@ module _ (came : List ℕ) (x : Sofar) (s : SFields) (e : is_first x ≡ true) w
   abbrev start_from : ℕ → ℕ
   start_from next = start_of next s
 
-  joins : (number : ℕ) → open_outcome x.head (opening_tick s) ≡ Accepted → line_distance came x (S s) number ≡ 0
+  joins : (number : ℕ) → open_outcome x.head (opening_tick s) ≡ Ok tt → line_distance came x (Some (S s)) number ≡ 0
   joins number o =
       ap (λ (y : State). let next = y.rec.next.0 in distance_with number (start_from next - next) (next - start_from next)) (is_opening ∙ opened came x.head s o) ∙
       ap₂ (distance_with number) (apart_by (judging.absent s.t)).0 (apart_by (judging.absent s.t)).1 ∙
@@ -191,11 +181,11 @@ module _ (came : List ℕ) (x : Sofar) (s : SFields) (e : is_first x ≡ true) w
           go false true = refl
           go false false = refl
 
-  first_none : line_distance came x (S s) (lowest (s_rows came x s)) ≡ 0
+  first_none : line_distance came x (Some (S s)) (lowest (s_rows came x s)) ≡ 0
   first_none = go over refl
     where
-      go : (b : Bool) → over ≡ b → line_distance came x (S s) (lowest (s_rows came x s)) ≡ 0
-      go true o = ap₂ (λ f g. line_distance came x (S s) (lowest ((f && g, 1) ∷ appended_rows (timeline_for came x s) s))) e o
+      go : (b : Bool) → over ≡ b → line_distance came x (Some (S s)) (lowest (s_rows came x s)) ≡ 0
+      go true o = ap₂ (λ f g. line_distance came x (Some (S s)) (lowest ((f && g, 1) ∷ appended_rows (timeline_for came x s) s))) e o
       go false o =
           joins (lowest (s_rows came x s))
           (number_accepted (open_outcome x.head (opening_tick s)) (sym (open_number x.head (opening_tick s)) ∙ ap (λ b. lowest ((b, 1) ∷ [])) o))

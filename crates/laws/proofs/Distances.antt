@@ -22,9 +22,9 @@ use Rattle.runs.specs.Encoding.{runs_for}
 use Rattle.agreement.specs.declared.Record.{Record}
 use Rattle.agreement.specs.declared.refusal.Refusal.TheVariants as refusal
 use Rattle.agreement.specs.Agreement.{agrees, every, counts_held}
-use Rattle.keeping.specs.declared.Outcome.{Outcome}
-use Rattle.keeping.specs.declared.Outcome.TheVariants.{Accepted, Refused}
-use Rattle.keeping.specs.Keeping.{outcome_number, outcome_distance}
+use Rattle.std.specs.Prelude.{Err, Ok}
+use Rattle.keeping.specs.Keeping.{Outcome}
+use Rattle.agreement.specs.Numbers.{answer_distance, answer_number}
 use Rattle.keeping.specs.Append.{given, unspent_of, room_outcome, fit_outcome}
 use Rattle.timeline.specs.Opening.{open_outcome}
 use Rattle.timeline.specs.Appending.{unjoined◌else◌, append_outcome}
@@ -69,15 +69,15 @@ stamp_far s next small = let x = less32 s.0 next.0 in go (eqb x 0) refl (ltb x (
 -- ---- an outcome
 
 pub record Told (o : Outcome) (ahead behind : ℕ) : Type 0 where
-  pub distance : outcome_distance o ≡ distance_with (outcome_number o) ahead behind
-  pub some : ltb 0 (outcome_distance o) ≡ is_apart (outcome_number o)
+  pub distance : answer_distance o ≡ distance_with (answer_number o) ahead behind
+  pub some : ltb 0 (answer_distance o) ≡ is_apart (answer_number o)
 
 module _ (a b : ℕ) where
   pub open_told : (h : Head) (t : Tick) → Told (open_outcome h t) a b
   unfolding open_outcome
   open_told h t = go (head_held h && tick_held t)
     where
-      go : (c : Bool) → Told (cond c Accepted (Refused refusal.OverLimit)) a b
+      go : (c : Bool) → Told (cond c (Ok tt) (Err refusal.OverLimit)) a b
       go true = record { distance = refl; some = refl }
       go false = record { distance = refl; some = refl }
 
@@ -92,8 +92,8 @@ module _ (a b : ℕ) where
       go : (t c e r : Bool) →
           Told
           (cond t
-          (cond c (cond e (cond r Accepted (Refused refusal.NoRunLeft)) (Refused refusal.PastEnd)) (Refused refusal.CountLimit))
-          (Refused refusal.TickLimit))
+          (cond c (cond e (cond r (Ok tt) (Err refusal.NoRunLeft)) (Err refusal.PastEnd)) (Err refusal.CountLimit))
+          (Err refusal.TickLimit))
           a b
       go false c e r = record { distance = refl; some = refl }
       go true false e r = record { distance = refl; some = refl }
@@ -111,7 +111,7 @@ module _ (a b : ℕ) where
     unfolding append_outcome
     append_told = go (agrees rec ws) (eqb d 0 || eqb n 0) (unjoined_told st (fit_outcome rec ws d n) f (fit_told rec ws d n))
       where
-        go : (s z : Bool) {o : Outcome} → Told o a b → Told (cond s (cond z (Refused refusal.NothingGiven) o) (Refused refusal.Disagreement)) a b
+        go : (s z : Bool) {o : Outcome} → Told o a b → Told (cond s (cond z (Err refusal.NothingGiven) o) (Err refusal.Disagreement)) a b
         go false z t = record { distance = refl; some = refl }
         go true true t = record { distance = refl; some = refl }
         go true false t = t
@@ -120,7 +120,7 @@ module _ (a b : ℕ) where
     unfolding pair_outcome
     pair_told c = go (agrees rec ws) (clock_held c) append_told
       where
-        go : (s h : Bool) {o : Outcome} → Told o a b → Told (cond s (cond h o (Refused refusal.ClockLimit)) (Refused refusal.Disagreement)) a b
+        go : (s h : Bool) {o : Outcome} → Told o a b → Told (cond s (cond h o (Err refusal.ClockLimit)) (Err refusal.Disagreement)) a b
         go false h t = record { distance = refl; some = refl }
         go true false t = record { distance = refl; some = refl }
         go true true t = t
@@ -131,11 +131,11 @@ module _ (a b : ℕ) where
         first (eqb d 0)
         (unjoined_told st _ f (behind (end_known rec.head) (before_end rec.head rec.next.0) (fit_told rec ws d n)))
       where
-        behind : (k e : Bool) {o : Outcome} → Told o a b → Told (cond k (cond e o (Refused refusal.PastEnd)) (Refused refusal.NoEndToReach)) a b
+        behind : (k e : Bool) {o : Outcome} → Told o a b → Told (cond k (cond e o (Err refusal.PastEnd)) (Err refusal.NoEndToReach)) a b
         behind false e t = record { distance = refl; some = refl }
         behind true false t = record { distance = refl; some = refl }
         behind true true t = t
 
-        first : (z : Bool) {o : Outcome} → Told o a b → Told (cond z (Refused refusal.NothingGiven) o) a b
+        first : (z : Bool) {o : Outcome} → Told o a b → Told (cond z (Err refusal.NothingGiven) o) a b
         first true t = record { distance = refl; some = refl }
         first false t = t

@@ -33,8 +33,7 @@ use Rattle.agreement.specs.Agreement.{every, agrees, kept}
 use Rattle.keeping.specs.Keeping.{changed_by, words_by}
 use Rattle.timeline.specs.Opening.{open_outcome}
 use Rattle.answers.specs.declared.Verdict.TheVariants.{Complete}
-use Rattle.answers.specs.declared.CoveredEdge.{CoveredEdge}
-use Rattle.answers.specs.declared.CoveredEdge.TheVariants.{At, Never, Refused}
+use Rattle.std.specs.Prelude.{Err, None, Ok, Option, Result, Some}
 use Rattle.answers.specs.Cover.{covered_by}
 use Rattle.answers.specs.Counts.{beyond, needed_count, covered_count, lowest_lacking}
 use Rattle.answers.specs.Judgement.{verdict_of, verdict_at, complete, Whole}
@@ -54,14 +53,15 @@ use Rattle.laws.proofs.ByHand.{state_a, state_b, state_d2, agreed, by_hand}
 
 -- ---- a tick that is needed and lies in no reference
 
-lacks_by : (h : Head) (w : Stretch) (rs : List Reference) (k : ℕ) → tick_needed h w k ≡ true → covered_by rs k ≡ false → SaysLacking (verdict_of h w rs)
+lacks_by : (h : Head) (w : Stretch) (rs : List Reference) (k : ℕ) → tick_needed h w k ≡ true → covered_by rs k ≡ false → SaysLacking (Ok (verdict_of h w rs))
 lacks_by h w rs k t f = (
   needed_count h w,
   covered_count h w rs,
   record { 0 = lowest_lacking h w rs },
-  to_lacking (needed_count h w) (covered_count h w rs) (lowest_lacking h w rs)
+  ap Ok
+      (to_lacking (needed_count h w) (covered_count h w rs) (lowest_lacking h w rs)
       (count_some (tick_needed h w) (beyond h w) k (needed_below h w k t) t)
-      (λ e. true≢false (sym (count_each (tick_needed h w) (covered_by rs) (beyond h w) e k (needed_below h w k t) t) ∙ f)),
+      (λ e. true≢false (sym (count_each (tick_needed h w) (covered_by rs) (beyond h w) e k (needed_below h w k t) t) ∙ f))),
 )
 
 natural : (z : ℤ) (n : ℕ) → up z ≡ n → 0 < n → z ≡ pos n
@@ -119,40 +119,40 @@ module _ (rec : Record) (ws : List ℕ) (a : agrees rec ws ≡ true) where
     last_uncovered =
         uncovered (last rec.head c) (omega (arith, after_tick rec.head c rec.next.0 (omega arith) f))
 
-    past_lacks : SaysLacking (verdict_of rec.head (window_at rec.head c) (kept rec ws))
+    past_lacks : SaysLacking (Ok (verdict_of rec.head (window_at rec.head c) (kept rec ws)))
     past_lacks = lacks_by rec.head (window_at rec.head c) (kept rec ws) (last rec.head c) (last_needed rec.head c l) last_uncovered
 
 -- ---- the answers
 
 module _ (rec : Record) (ws : List ℕ) where
-  abbrev edge : CoveredEdge
+  abbrev edge : Option Millis
   edge = edge_of rec.head rec.next.0
 
   abbrev test : ℕ → Bool
   test = at_or_before rec.head rec.next.0
 
-  pub asked : agrees rec ws ≡ true → covered_edge rec ws ≡ edge
-  asked a = ap (λ t. cond t edge (Refused Disagreement)) a
+  pub asked : agrees rec ws ≡ true → covered_edge rec ws ≡ Ok edge
+  asked a = ap (λ t. cond t (Ok edge) (Err Disagreement)) a
 
-  by_asked : (A : CoveredEdge → Type 0) → (agrees rec ws ≡ false → A (Refused Disagreement)) → (agrees rec ws ≡ true → A edge) → A (covered_edge rec ws)
+  by_asked : (A : Result (Option Millis) Refusal → Type 0) → (agrees rec ws ≡ false → A (Err Disagreement)) → (agrees rec ws ≡ true → A (Ok edge)) → A (covered_edge rec ws)
   by_asked A disagree agreed = go (agrees rec ws) refl
     where
-      go : (t : Bool) → agrees rec ws ≡ t → A (cond t edge (Refused Disagreement))
+      go : (t : Bool) → agrees rec ws ≡ t → A (cond t (Ok edge) (Err Disagreement))
       go true e = agreed e
       go false e = disagree e
 
   -- what is known of an answer that is not refused
-  known : (x : CoveredEdge) → edge ≡ x → Latest test largest_millis x
+  known : (x : Option Millis) → edge ≡ x → Latest test largest_millis x
   known x e = subst (Latest test largest_millis) e (latest_right test largest_millis)
 
-  at : (m : Millis) → ExactlyWhen (covered_edge rec ws ≡ At m) ((agrees rec ws ≡ true) × LatestClock rec m.0)
+  at : (m : Millis) → ExactlyWhen (covered_edge rec ws ≡ Ok (Some m)) ((agrees rec ws ≡ true) × LatestClock rec m.0)
   at m =
       record {
         only =
-            by_asked (λ x. x ≡ At m → (agrees rec ws ≡ true) × LatestClock rec m.0)
+            by_asked (λ x. x ≡ Ok (Some m) → (agrees rec ws ≡ true) × LatestClock rec m.0)
             (λ a e. let clash : ◌≡◌ {A = ℕ} 0 1 = cc in let y : ⊥ = omega arith in absurd y)
-            (λ a e. let r = known (At m) e in (a, record { limit = r.0; there = r.1; later = r.2 }));
-        if = λ p. asked p.0 ∙ sym (right_is test largest_millis (At m) (p.1.limit, p.1.there, p.1.later));
+            (λ a e. let same : edge ≡ Some m = cc in let r = known (Some m) same in (a, record { limit = r.0; there = r.1; later = r.2 }));
+        if = λ p. asked p.0 ∙ ap Ok (sym (right_is test largest_millis (Some m) (p.1.limit, p.1.there, p.1.later)));
       }
 
   -- what the upper edge has passed at clock 0 it has passed at every clock
@@ -169,27 +169,27 @@ module _ (rec : Record) (ws : List ℕ) where
           by_clock h k c b ∙ lt-leb ((c + h.update.0) * h.timescale.0 + h.offset.0 * 1000) (k * 1000 + h.start.0 * h.timescale.0) (omega arith)
       go false b = absurd (true≢false (sym (by_end rec.head rec.next.0 0 b) ∙ f))
 
-  never : ExactlyWhen (covered_edge rec ws ≡ Never) ((agrees rec ws ≡ true) × (test 0 ≡ false))
+  never : ExactlyWhen (covered_edge rec ws ≡ Ok None) ((agrees rec ws ≡ true) × (test 0 ≡ false))
   never =
       record {
         only =
-            by_asked (λ x. x ≡ Never → (agrees rec ws ≡ true) × (test 0 ≡ false))
+            by_asked (λ x. x ≡ Ok None → (agrees rec ws ≡ true) × (test 0 ≡ false))
             (λ a e. let clash : ◌≡◌ {A = ℕ} 0 1 = cc in let y : ⊥ = omega arith in absurd y)
-            (λ a e. (a, known Never e 0 (omega arith)));
-        if = λ p. asked p.0 ∙ sym (right_is test largest_millis Never (λ c l. from_start p.1 c));
+            (λ a e. let same : edge ≡ None = cc in (a, known None same 0 (omega arith)));
+        if = λ p. asked p.0 ∙ ap Ok (sym (right_is test largest_millis None (λ c l. from_start p.1 c)));
       }
 
-  refused : (why : Refusal) → ExactlyWhen (covered_edge rec ws ≡ Refused why) ((agrees rec ws ≡ false) × (why ≡ Disagreement))
+  refused : (why : Refusal) → ExactlyWhen (covered_edge rec ws ≡ Err why) ((agrees rec ws ≡ false) × (why ≡ Disagreement))
   refused why =
       record {
         only =
-            by_asked (λ x. x ≡ Refused why → (agrees rec ws ≡ false) × (why ≡ Disagreement))
+            by_asked (λ x. x ≡ Err why → (agrees rec ws ≡ false) × (why ≡ Disagreement))
             (λ a e. (a, let same : Disagreement ≡ why = cc in sym same))
-            (λ a e. absurd (known (Refused why) e));
-        if = λ p. ap (λ t. cond t edge (Refused Disagreement)) p.0 ∙ ap Refused (sym p.1);
+            (λ a e. let clash : ◌≡◌ {A = ℕ} 0 1 = cc in let y : ⊥ = omega arith in absurd y);
+        if = λ p. ap (λ t. cond t (Ok edge) (Err Disagreement)) p.0 ∙ ap Err (sym p.1);
       }
 
-  limit : agrees rec ws ≡ true → 1 ≤ rec.head.duration.0 → reaches_end rec.head rec.next.0 ≡ true → covered_edge rec ws ≡ At (clock largest_millis)
+  limit : agrees rec ws ≡ true → 1 ≤ rec.head.duration.0 → reaches_end rec.head rec.next.0 ≡ true → covered_edge rec ws ≡ Ok (Some (clock largest_millis))
   unfolding period_end
   limit a d e =
       let h = rec.head in
@@ -202,7 +202,7 @@ module _ (rec : Record) (ws : List ℕ) where
       le-ltb (k * 1000) (h.offset.0 * 1000 + end_at h) (omega arith)
       in
       asked a ∙
-      sym (right_is test largest_millis (At (clock largest_millis)) (omega arith, by_end h k largest_millis b, λ j i m. let y : ⊥ = omega arith in absurd y))
+      ap Ok (sym (right_is test largest_millis (Some (clock largest_millis)) (omega arith, by_end h k largest_millis b, λ j i m. let y : ⊥ = omega arith in absurd y)))
 
   -- ---- verdicts
 
@@ -216,13 +216,13 @@ module _ (rec : Record) (ws : List ℕ) where
           asked_at rec ws c p.agreed (le-leb c.0 largest_millis p.limit) (le-leb rec.clock.0 c.0 p.later) ∙ v.3,
         )
 
-    lacking_after : (m : Millis) → covered_edge rec ws ≡ At m → m.0 < c.0 → MayAsk rec ws c → NotEmpty (at_clock rec c) → SaysLacking (verdict_at rec ws c)
+    lacking_after : (m : Millis) → covered_edge rec ws ≡ Ok (Some m) → m.0 < c.0 → MayAsk rec ws c → NotEmpty (at_clock rec c) → SaysLacking (verdict_at rec ws c)
     lacking_after m e l p = lacking (((at m).only e).1.later c.0 l p.limit) p
 
-    lacking_ever : covered_edge rec ws ≡ Never → MayAsk rec ws c → NotEmpty (at_clock rec c) → SaysLacking (verdict_at rec ws c)
+    lacking_ever : covered_edge rec ws ≡ Ok None → MayAsk rec ws c → NotEmpty (at_clock rec c) → SaysLacking (verdict_at rec ws c)
     lacking_ever e p = lacking (from_start (never.only e).1 c.0) p
 
-    complete_upto : (n : ℕ) → verdict_at rec ws c ≡ Complete n → (m : Millis) × (covered_edge rec ws ≡ At m) × (c.0 ≤ m.0)
+    complete_upto : (n : ℕ) → verdict_at rec ws c ≡ Ok (Complete n) → (m : Millis) × (covered_edge rec ws ≡ Ok (Some m)) × (c.0 ≤ m.0)
     complete_upto n e = upto edge refl
       where
         said : (agrees rec ws ≡ true) × (leb c.0 largest_millis ≡ true) × (leb rec.clock.0 c.0 ≡ true) × Whole rec.head (at_clock rec c) (kept rec ws)
@@ -243,19 +243,18 @@ module _ (rec : Record) (ws : List ℕ) where
                 (true≢false
                 (sym (whole.each (last rec.head c.0) (last_needed rec.head c.0 l)) ∙ last_uncovered rec ws said.0 c.0 l f))
 
-        upto : (x : CoveredEdge) → edge ≡ x → (m : Millis) × (covered_edge rec ws ≡ At m) × (c.0 ≤ m.0)
-        upto (At m) g = (m, asked said.0 ∙ g, not_later test largest_millis m.0 c.0 there held (known (At m) g).2)
-        upto Never g = absurd (true≢false (sym there ∙ known Never g c.0 held))
-        upto (Refused why) g = absurd (known (Refused why) g)
+        upto : (x : Option Millis) → edge ≡ x → (m : Millis) × (covered_edge rec ws ≡ Ok (Some m)) × (c.0 ≤ m.0)
+        upto (Some m) g = (m, asked said.0 ∙ ap Ok g, not_later test largest_millis m.0 c.0 there held (known (Some m) g).2)
+        upto None g = absurd (true≢false (sym there ∙ known None g c.0 held))
 
 -- ---- by hand
 
 -- the edge is where the next tick stands, in whole milliseconds
 pub at_clock_lem : (h : Head) (k m : ℕ) → before_end h k ≡ true → m ≤ largest_millis → (m + h.update.0) * h.timescale.0 + h.offset.0 * 1000 ≤ k * 1000 + h.start.0 * h.timescale.0 →
-    k * 1000 + h.start.0 * h.timescale.0 < (m + 1 + h.update.0) * h.timescale.0 + h.offset.0 * 1000 → edge_of h k ≡ At (clock m)
+    k * 1000 + h.start.0 * h.timescale.0 < (m + 1 + h.update.0) * h.timescale.0 + h.offset.0 * 1000 → edge_of h k ≡ Some (clock m)
 at_clock_lem h k m b l u v =
     sym
-    (right_is (at_or_before h k) largest_millis (At (clock m)) (
+    (right_is (at_or_before h k) largest_millis (Some (clock m)) (
       l,
       by_clock h k m b ∙ le-leb ((m + h.update.0) * h.timescale.0 + h.offset.0 * 1000) (k * 1000 + h.start.0 * h.timescale.0) u,
       λ j i n.
@@ -290,10 +289,10 @@ edge_right =
       complete_upto = complete_upto;
       a_edge =
           ap (λ s. covered_edge s.rec s.words) by_hand.a_state ∙ asked state_a.rec state_a.words agreed.a ∙
-          at_clock_lem head_a 161 36_100 worked.a_before (lit≤ tt) (lit≤ tt) (lit< tt);
+          ap Ok (at_clock_lem head_a 161 36_100 worked.a_before (lit≤ tt) (lit≤ tt) (lit< tt));
       b_edge =
           ap (λ s. covered_edge s.rec s.words) by_hand.b_state ∙ asked state_b.rec state_b.words agreed.b ∙
-          at_clock_lem head_b 20_000 20_000 refl (lit≤ tt) (lit≤ tt) (lit< tt);
+          ap Ok (at_clock_lem head_b 20_000 20_000 refl (lit≤ tt) (lit≤ tt) (lit< tt));
       b_none =
           ap (λ s. covered_edge s.rec s.words) worked.late_state ∙
           (never state_late.rec state_late.words).if (worked.late, worked.late_zero);

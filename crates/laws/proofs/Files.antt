@@ -19,11 +19,10 @@ use Rattle.runs.specs.Encoding.{runs_for}
 use Rattle.runs.proofs.EndToStart.{kept_join}
 use Rattle.runs.proofs.Tables.{runs_for_kept, canonical_kept}
 use Rattle.agreement.specs.declared.Record.{Record}
-use Rattle.agreement.specs.declared.refusal.Refusal.{Refusal}
 use Rattle.agreement.specs.declared.refusal.Refusal.TheVariants.{Disagreement, NothingKept, ShortOutput, NothingGiven, PastEnd, NoEndToReach}
 use Rattle.agreement.specs.Agreement.{agrees, kept}
 use Rattle.agreement.proofs.Agreeing.{agree_shaped}
-use Rattle.keeping.specs.declared.Outcome.TheVariants as outcome
+use Rattle.std.specs.Prelude.{Ok, Err}
 use Rattle.keeping.specs.Keeping.{words_keeping}
 use Rattle.keeping.specs.Append.{fit_outcome}
 use Rattle.timeline.specs.Appending.{append_outcome}
@@ -33,8 +32,6 @@ use Rattle.file.specs.declared.Stage.TheVariants.{Filled, Open}
 use Rattle.file.specs.Least.{least_count}
 use Rattle.file.specs.Judging.{first_negative, reach_outcome, appended_by, reaches_by, take_s}
 use Rattle.file.proofs.Counts as count
-use Rattle.writing.specs.declared.WriteAnswer.{WriteAnswer}
-use Rattle.writing.specs.declared.WriteAnswer.TheVariants.{Written, Refused}
 use Rattle.writing.specs.Writing.{kept_head, file_for, write_answer, output_by}
 use Rattle.writing.proofs.Stable as stable
 use Rattle.answers.proofs.Counting.{some_of}
@@ -42,43 +39,36 @@ use Rattle.laws.specs.Demand2.{first_kept, Writes, ReadsBack, output, SameKept}
 
 -- ---- what was written
 
-length_of : WriteAnswer → ℕ
-length_of (Written n) = n
-length_of (Refused why) = 0
-
 module _ (rec : Record) (ws : List ℕ) (room n : ℕ) where
-  wrote : write_answer rec ws room ≡ Written n → Writes rec ws room n
-  unfolding write_answer length_of
+  wrote : write_answer rec ws room ≡ Ok n → Writes rec ws room n
+  unfolding write_answer
   wrote = go (agrees rec ws) refl (eqb rec.used 0) refl (leb (length (file_for rec ws)) room) refl
     where
-      no : {A : Type 0} (why : Refusal) → Refused why ≡ Written n → A
-      no why e = let z : ◌≡◌ {A = ℕ} 0 1 = cc in absurd (let y : ⊥ = omega arith in y)
-
       go : (x : Bool) → agrees rec ws ≡ x → (y : Bool) → eqb rec.used 0 ≡ y → (z : Bool) → leb (length (file_for rec ws)) room ≡ z →
-          cond x (cond y (Refused NothingKept) (cond z (Written (length (file_for rec ws))) (Refused ShortOutput))) (Refused Disagreement) ≡ Written n →
+          cond x (cond y (Err NothingKept) (cond z (Ok (length (file_for rec ws))) (Err ShortOutput))) (Err Disagreement) ≡ Ok n →
           Writes rec ws room n
       go true e false f true g q =
-          let long : length (file_for rec ws) ≡ n = ap length_of q in
+          let long : length (file_for rec ws) ≡ n = cc in
           let fits = leb-true (length (file_for rec ws)) room g in
           record { agreed = e; some = some_of rec.used f; long = sym long; fits = omega arith }
-      go true e false f false g q = no ShortOutput q
-      go true e true f z g q = no NothingKept q
-      go false e y f z g q = no Disagreement q
+      go true e false f false g q = cc
+      go true e true f z g q = cc
+      go false e y f z g q = cc
 
-  writes : Writes rec ws room n → write_answer rec ws room ≡ Written n
+  writes : Writes rec ws room n → write_answer rec ws room ≡ Ok n
   unfolding write_answer
   writes w =
       let fits : length (file_for rec ws) ≤ room = omega (arith, w.long, w.fits) in
-      ap₂ (λ x y. cond x (cond y (Refused NothingKept) (cond (leb (length (file_for rec ws)) room) (Written (length (file_for rec ws))) (Refused ShortOutput))) (Refused Disagreement))
+      ap₂ (λ x y. cond x (cond y (Err NothingKept) (cond (leb (length (file_for rec ws)) room) (Ok (length (file_for rec ws))) (Err ShortOutput))) (Err Disagreement))
       w.agreed
       (ne_eqb rec.used 0 (λ z. let y : ⊥ = omega (arith, w.some) in y)) ∙
-      ap (λ z. cond z (Written (length (file_for rec ws))) (Refused ShortOutput)) (le-leb (length (file_for rec ws)) room fits) ∙
-      ap Written (sym w.long)
+      ap (λ z. cond z (Ok (length (file_for rec ws))) (Err ShortOutput)) (le-leb (length (file_for rec ws)) room fits) ∙
+      ap Ok (sym w.long)
 
-  pub written : ExactlyWhen (write_answer rec ws room ≡ Written n) (Writes rec ws room n)
+  pub written : ExactlyWhen (write_answer rec ws room ≡ Ok n) (Writes rec ws room n)
   written = record { only = wrote; if = writes }
 
-pub read_back_lem : (rec : Record) (ws out : List ℕ) (n : ℕ) → write_answer rec ws (length out) ≡ Written n →
+pub read_back_lem : (rec : Record) (ws out : List ℕ) (n : ℕ) → write_answer rec ws (length out) ≡ Ok n →
     (came : List ℕ) → rec.used ≤ capacity came → ReadsBack rec ws came (take n (output rec ws out))
 unfolding output_by
 read_back_lem rec ws out n e came room = subst⁻¹ (ReadsBack rec ws came) bytes back
@@ -141,9 +131,9 @@ module _ (rec other : Record) (ws vs : List ℕ) (a : agrees rec ws ≡ true) (b
   same_answer : (room : ℕ) → write_answer rec ws room ≡ write_answer other vs room
   unfolding write_answer
   same_answer room =
-      ap₂ (λ x (u : ℕ). cond x (cond (eqb u 0) (Refused NothingKept) (cond (leb (length (file_for rec ws)) room) (Written (length (file_for rec ws))) (Refused ShortOutput))) (Refused Disagreement))
+      ap₂ (λ x (u : ℕ). cond x (cond (eqb u 0) (Err NothingKept) (cond (leb (length (file_for rec ws)) room) (Ok (length (file_for rec ws))) (Err ShortOutput))) (Err Disagreement))
       (a ∙ sym b) same_used ∙
-      ap (λ (n : ℕ). cond (agrees other vs) (cond (eqb other.used 0) (Refused NothingKept) (cond (leb n room) (Written n) (Refused ShortOutput))) (Refused Disagreement))
+      ap (λ (n : ℕ). cond (agrees other vs) (cond (eqb other.used 0) (Err NothingKept) (cond (leb n room) (Ok n) (Err ShortOutput))) (Err Disagreement))
       (ap length same_bytes)
 
   pub same_file : (out : List ℕ) → (write_answer rec ws (length out) ≡ write_answer other vs (length out)) × (output rec ws out ≡ output other vs out)
@@ -168,7 +158,7 @@ negative_r r ws s n negative lasts known before l =
   where
     judged : reach_outcome r.rec ws Joins s.d n ≡ fit_outcome r.rec ws s.d n
     judged =
-        ap₂ (λ t u. cond t (outcome.Refused NothingGiven) (cond u (cond (before_end r.rec.head r.rec.next.0) (fit_outcome r.rec ws s.d n) (outcome.Refused PastEnd)) (outcome.Refused NoEndToReach)))
+        ap₂ (λ t u. cond t (Err NothingGiven) (cond u (cond (before_end r.rec.head r.rec.next.0) (fit_outcome r.rec ws s.d n) (Err PastEnd)) (Err NoEndToReach)))
         (ne_eqb s.d 0 (λ z. let y : ⊥ = omega arith in y))
         (ap not (ne_eqb r.rec.head.duration.0 0 (λ z. let y : ⊥ = omega arith in y))) ∙
-        ap (λ t. cond t (fit_outcome r.rec ws s.d n) (outcome.Refused PastEnd)) before
+        ap (λ t. cond t (fit_outcome r.rec ws s.d n) (Err PastEnd)) before

@@ -28,8 +28,8 @@ use Rattle.agreement.specs.declared.Record.{Record}
 use Rattle.agreement.specs.declared.refusal.Refusal.{Refusal}
 use Rattle.agreement.specs.Agreement.{kept, agrees}
 use Rattle.agreement.proofs.Agreeing.{agreeing}
-use Rattle.keeping.specs.declared.Outcome.{Outcome}
-use Rattle.keeping.specs.declared.Outcome.TheVariants.{Accepted, Refused}
+use Rattle.std.specs.Prelude.{Err, Ok}
+use Rattle.keeping.specs.Keeping.{Outcome}
 use Rattle.keeping.specs.Keeping.{unspent, words_keeping, changed_by, words_by}
 use Rattle.keeping.specs.Append.{given, all_of, unspent_of, appended}
 use Rattle.keeping.proofs.Unspent.{unspent_append, unspent_few}
@@ -96,7 +96,7 @@ module _ (h : Head) (t : Tick) (words : ℕ) where
           ap (λ xs. xs ++ unspent h c new) (unspent_raised h c c (le_refl c) acc) ∙
           sym (unspent_append h c acc new)
 
-      module _ (narrow : d ≤ largest_span) (e : append_outcome (record_of acc c) (words_of acc c) st d n ≡ Accepted) where
+      module _ (narrow : d ≤ largest_span) (e : append_outcome (record_of acc c) (words_of acc c) st d n ≡ Ok tt) where
         took : Taken (record_of acc c) (words_of acc c) st d n
         took = taken (record_of acc c) (words_of acc c) st d n e
 
@@ -162,7 +162,7 @@ module _ (h : Head) (t : Tick) (words : ℕ) where
     -- ---- a trim
 
     module _ (m : WideMillis) where
-      module _ (e : trim_outcome (record_of acc c) (words_of acc c) m ≡ Accepted) where
+      module _ (e : trim_outcome (record_of acc c) (words_of acc c) m ≡ Ok tt) where
         less_is : unspent_at (record_of acc c) (words_of acc c) m.0 ≡ unspent h (max c m.0) acc
         less_is = ap (unspent h (max c m.0)) kept_is ∙ unspent_raised h c (max c m.0) (le-max_left c m.0) acc
 
@@ -223,11 +223,11 @@ module _ (h : Head) (t : Tick) (words : ℕ) where
       (append_to (state_of acc c) st d n ≡ state_of (acc ++ if_accepted o (given (record_of acc c) d n)) (max c 0)) ×
       Fit (acc ++ if_accepted o (given (record_of acc c) d n)) (max c 0)
   unfolding new
-  next_append acc c f st d n l Accepted e = (
+  next_append acc c f st d n l (Ok _) e = (
     append_state acc c f st d n l e ∙ ap (state_of (acc ++ given (record_of acc c) d n)) (sym (max-zero c)),
     same_history (acc ++ given (record_of acc c) d n) (acc ++ given (record_of acc c) d n) c (max c 0) refl (sym (max-zero c)) (append_fit acc c f st d n l e),
   )
-  next_append acc c f st d n l (Refused why) e = (
+  next_append acc c f st d n l (Err why) e = (
     append_refused (state_of acc c) st d n why e ∙ ap₂ state_of (sym (append-nil acc)) (sym (max-zero c)),
     same_history acc (acc ++ []) c (max c 0) (sym (append-nil acc)) (sym (max-zero c)) f,
   )
@@ -235,11 +235,11 @@ module _ (h : Head) (t : Tick) (words : ℕ) where
   next_trim : (acc : List Reference) (c : ℕ) → Fit acc c → (m : WideMillis) →
       (o : Outcome) → trim_outcome (record_of acc c) (words_of acc c) m ≡ o →
       (after (state_of acc c) (trim_at m) ≡ state_of (acc ++ []) (max c (clock_if o m.0))) × Fit (acc ++ []) (max c (clock_if o m.0))
-  next_trim acc c f m Accepted e = (
+  next_trim acc c f m (Ok _) e = (
     trim_state acc c f m e ∙ ap (λ xs. state_of xs (max c m.0)) (sym (append-nil acc)),
     same_history acc (acc ++ []) (max c m.0) (max c m.0) (sym (append-nil acc)) refl (trim_fit acc c f m e),
   )
-  next_trim acc c f m (Refused why) e = (
+  next_trim acc c f m (Err why) e = (
     trim_refused (state_of acc c) m why e ∙ ap₂ state_of (sym (append-nil acc)) (sym (max-zero c)),
     same_history acc (acc ++ []) c (max c 0) (sym (append-nil acc)) (sym (max-zero c)) f,
   )
@@ -249,7 +249,7 @@ module _ (h : Head) (t : Tick) (words : ℕ) where
       (after (state_of acc c) (pair_at x d n m) ≡ state_of (acc ++ if_accepted o (given (record_of acc c) d n)) (max c (clock_if o m.0))) ×
       Fit (acc ++ if_accepted o (given (record_of acc c) d n)) (max c (clock_if o m.0))
   unfolding new
-  next_pair acc c f x d n m l Accepted e =
+  next_pair acc c f x d n m l (Ok _) e =
       let st = stamp_standing x (record_of acc c).next in
       let p = pair_passed (record_of acc c) (words_of acc c) st d n m e in
       let long = acc ++ given (record_of acc c) d n in
@@ -258,15 +258,15 @@ module _ (h : Head) (t : Tick) (words : ℕ) where
         pair_done (state_of acc c) x d n m e ∙ ap (λ s. after s (trim_at m)) (append_state acc c f st d n l p.taken) ∙ trim_state long c g m t,
         trim_fit long c g m t,
       )
-  next_pair acc c f x d n m l (Refused why) e = (
+  next_pair acc c f x d n m l (Err why) e = (
     pair_refused (state_of acc c) x d n m why e ∙ ap₂ state_of (sym (append-nil acc)) (sym (max-zero c)),
     same_history acc (acc ++ []) c (max c 0) (sym (append-nil acc)) (sym (max-zero c)) f,
   )
 
   -- a trim brings nothing, however it ends
   none_brought : (o : Outcome) → if_accepted {A = Reference} o [] ≡ []
-  none_brought Accepted = refl
-  none_brought (Refused why) = refl
+  none_brought (Ok _) = refl
+  none_brought (Err why) = refl
 
   pub next_call : (acc : List Reference) (c : ℕ) → Fit acc c → (call : Call) → Plain (call ∷ []) → Next acc c call
   next_call acc c f (by_tick x d n) p =
@@ -353,7 +353,7 @@ module _ (h : Head) (t : Tick) (words : ℕ) where
             ap (λ xs. drop (length acc - length xs) acc) (sym (suffix acc c f).1);
       }
 
-  pub start_fit : open_outcome h t ≡ Accepted → Fit [] 0
+  pub start_fit : open_outcome h t ≡ Ok tt → Fit [] 0
   unfolding unspent last_end encode table_of Words.words_of
   start_fit o =
       let blank : replicate words 0 ≡ words_of [] 0 = ap (λ (n : ℕ). replicate n 0) (sym (sub-zero words)) in
@@ -376,7 +376,7 @@ module _ (h : Head) (t : Tick) (came : List ℕ) where
   abbrev reached : List Reference → ℕ → State
   reached = state_of h t (length came)
 
-  module _ (o : open_outcome h t ≡ Accepted) where
+  module _ (o : open_outcome h t ≡ Ok tt) where
     -- the opening is the history of nothing
     pub start_is : opens ≡ reached [] 0
     unfolding changed_by words_by unspent last_end encode table_of Words.words_of
@@ -403,18 +403,18 @@ module _ (h : Head) (t : Tick) (came : List ℕ) where
       ends_fit = same_history h t (length came) _ _ _ _ all_same clock_same ran.fits
 
   -- after a refused opening
-  module _ (why : Refusal) (o : open_outcome h t ≡ Refused why) where
+  module _ (why : Refusal) (o : open_outcome h t ≡ Err why) where
     refused_is : opens ≡ state_from zero_record came
     unfolding changed_by words_by
     refused_is = ap leaves o
 
 -- each accepted reference lasts, and starts before the period end
-pub accepted_sound : (h : Head) (t : Tick) (came : List ℕ) → open_outcome h t ≡ Accepted → (cs : List Call) → Plain cs → Each (Sound h) (all_accepted (opening h t came) cs)
+pub accepted_sound : (h : Head) (t : Tick) (came : List ℕ) → open_outcome h t ≡ Ok tt → (cs : List Call) → Plain cs → Each (Sound h) (all_accepted (opening h t came) cs)
 accepted_sound h t came o cs p = (ends_fit h t came o cs p).sound
 
 -- ---- the accepted references by the accepted appends
 
-laid : (h : Head) (t : Tick) (came : List ℕ) → open_outcome h t ≡ Accepted → (cs : List Call) →
+laid : (h : Head) (t : Tick) (came : List ℕ) → open_outcome h t ≡ Ok tt → (cs : List Call) →
     all_accepted (opening h t came) cs ≡ laid_from t.0 (accepted_appends (opening h t came) cs)
 laid h t came o cs =
     laid_out (opening h t came) cs ∙ ap (λ (n : ℕ). laid_from n (accepted_appends (opening h t came) cs)) (first_tick_lem h t came o)

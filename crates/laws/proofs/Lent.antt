@@ -1,4 +1,5 @@
 -- The record lent: the contracts are what they say by computation, and a row of calls is followed call by call.
+use Rattle.agreement.specs.Numbers.{answer_number}
 use Prim.Native.Nat.{ℕ}
 use mathlib.Core.Path.{◌≡◌, refl, sym, ap, ap₂, subst, subst⁻¹, ◌∙◌}
 use mathlib.Core.Bool.{true}
@@ -13,9 +14,9 @@ use Rattle.runs.specs.Shape.{runs_shaped, zeros}
 use Rattle.runs.specs.Ends.{last_end}
 use Rattle.runs.specs.Encoding.{canonical, push, encode, table_of}
 use Rattle.agreement.specs.Agreement.{every, agrees}
-use Rattle.keeping.specs.declared.Outcome.{Outcome}
-use Rattle.keeping.specs.declared.Outcome.TheVariants.{Accepted}
-use Rattle.keeping.specs.Keeping.{unspent, outcome_number, changed_by, words_by}
+use Rattle.std.specs.Prelude.{Ok}
+use Rattle.keeping.specs.Keeping.{Outcome}
+use Rattle.keeping.specs.Keeping.{unspent, changed_by, words_by}
 use Rattle.keeping.specs.Append.{room_outcome, fit_outcome}
 use Rattle.timeline.specs.Opening.{open_outcome}
 use Rattle.timeline.specs.Appending.{append_outcome}
@@ -28,7 +29,7 @@ use Rattle.laws.proofs.Calling.{refused_stays}
 use Rattle.laws.proofs.Histories.{demand_3}
 use Rattle.laws.proofs.Refusals.{refusals}
 
-number : (s : State) (c : Call) → Plain (c ∷ []) → outcome_number (outcome_of s c) ≡ lowest (rows_of s c)
+number : (s : State) (c : Call) → Plain (c ∷ []) → answer_number (outcome_of s c) ≡ lowest (rows_of s c)
 number s (by_tick t d n) plain = refusals.append s.rec s.words t d n plain.0
 number s (by_stamp x d n) plain = refusals.append_stamp s.rec s.words x d n plain.0
 number s (trim_at c) plain = refusals.trim s.rec s.words c
@@ -53,7 +54,7 @@ answers s (c ∷ cs) (o ∷ os) left (more {between = between} l ls) =
     ap₂ ◌∷◌ l.outcome (answers between cs os left ls ∙ ap (λ (x : State). outcomes_of x cs) (left_is s c o between l))
 
 -- where nothing is kept every word is 0, so two such states have the same words
-module _ (h : Head) (t : Tick) (came : List ℕ) (ok : open_outcome h t ≡ Accepted) where
+module _ (h : Head) (t : Tick) (came : List ℕ) (ok : open_outcome h t ≡ Ok tt) where
   abbrev left_by : List Call → State
   left_by cs = after_calls (opening h t came) cs
 
@@ -73,7 +74,7 @@ lent_right =
       one_there = λ s c. record { outcome = refl; rec = refl; words = refl };
       one_answer = λ s c o p left other l m. l.outcome ∙ sym m.outcome;
       one_left = λ s c o p left other l m. left_is s c o left l ∙ sym (left_is s c p other m);
-      number = λ s c o left plain l. ap outcome_number l.outcome ∙ number s c plain;
+      number = λ s c o left plain l. ap answer_number l.outcome ∙ number s c plain;
       refused = λ s c why left l. left_is s c _ left l ∙ refused_stays s c why (sym l.outcome);
       answers = answers;
       ends = ends;

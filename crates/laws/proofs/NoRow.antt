@@ -11,11 +11,10 @@ use Rattle.units.specs.Limits.{largest_span}
 use Rattle.units.specs.Standing.{tick_standing}
 use Rattle.agreement.specs.declared.refusal.Refusal.{Refusal}
 use Rattle.agreement.specs.Agreement.{agrees}
-use Rattle.agreement.specs.Numbers.{refusal_number}
+use Rattle.agreement.specs.Numbers.{refusal_number, answer_number}
 use Rattle.agreement.proofs.Numbers.{refusal_some}
-use Rattle.keeping.specs.declared.Outcome.{Outcome}
-use Rattle.keeping.specs.declared.Outcome.TheVariants.{Accepted}
-use Rattle.keeping.specs.Keeping.{outcome_number}
+use Rattle.std.specs.Prelude.{Ok}
+use Rattle.keeping.specs.Keeping.{Outcome}
 use Rattle.keeping.proofs.Outcomes.{number_accepted}
 use Rattle.timeline.specs.Appending.{append_answer}
 use Rattle.timeline.proofs.Kept.{or_none}
@@ -57,15 +56,15 @@ module _ (x : State) (start : WideTick) (d n : ℕ) (agreed : agrees x.rec x.wor
   abbrev answered : Outcome
   answered = (append_answer x.rec x.words (tick_standing start x.rec.next) d n).outcome
 
-  pub append_none : answered ≡ Accepted → NoneHolds rows
-  append_none e = none_holds rows (omega arith) (sym (append x.rec x.words d n narrow start) ∙ ap outcome_number e)
+  pub append_none : answered ≡ Ok tt → NoneHolds rows
+  append_none e = none_holds rows (omega arith) (sym (append x.rec x.words d n narrow start) ∙ ap answer_number e)
 
-  append_if : NoneHolds rows → answered ≡ Accepted
+  append_if : NoneHolds rows → answered ≡ Ok tt
   append_if e = number_accepted answered (append x.rec x.words d n narrow start ∙ no_row rows e)
 
   -- what a negative r that is not refused has passed
   pub record Reaches : Type 0 where
-    pub taken : answered ≡ Accepted
+    pub taken : answered ≡ Ok tt
     pub lasts : eqb d 0 ≡ false
     pub known : eqb x.rec.head.duration.0 0 ≡ false
     pub begins : starts_past x.rec d n ≡ false
@@ -95,5 +94,5 @@ module _ (x : State) (start : WideTick) (d n : ℕ) (agreed : agrees x.rec x.wor
       let lasts : eqb d 0 ≡ false = (or_none (eqb d 0) (eqb n 0) r.1.0).0 in
       (search, (search, (search, (search, (search, (search, (search, (search, tt))))))))
 
-  pub reach_if : answered ≡ Accepted → eqb x.rec.head.duration.0 0 ≡ false → lowest (reach_rows x start.0 d n) ≡ 0
+  pub reach_if : answered ≡ Ok tt → eqb x.rec.head.duration.0 0 ≡ false → lowest (reach_rows x start.0 d n) ≡ 0
   reach_if e known = no_row (reach_rows x start.0 d n) (append_rows_lem (append_none e) known)

@@ -1,4 +1,5 @@
 -- The old answers stand: the window at an update period of 0, the frames of lines that are no head with one, and what is written behind the head line.
+use Rattle.agreement.specs.Numbers.{answer_number}
 use mathlib.Core.Path.{◌≡◌, refl, sym, ap, ap₂, subst⁻¹, ◌∙◌}
 use mathlib.Core.Bool.{Bool, true, false, cond, ◌&&◌}
 use mathlib.Core.List.{List, [], ◌∷◌, ◌++◌, map}
@@ -10,6 +11,7 @@ use lib.IntN.{pos}
 use lib.Signed.{le_z}
 use lib.ListN.{length, drop, length-append}
 use Rattle.units.specs.Exactly.{ExactlyWhen}
+use Rattle.units.specs.declared.Millis.{Millis}
 use Rattle.units.specs.declared.WideMillis.{WideMillis}
 use Rattle.units.specs.Limits.{largest_millis, clock_held}
 use Rattle.hexdigits.specs.Ascii.{ascii}
@@ -25,22 +27,20 @@ use Rattle.agreement.specs.declared.Record.{Record}
 use Rattle.agreement.specs.declared.refusal.Refusal.TheVariants.{Disagreement, ClockLimit, EarlierClock, NothingKept, ShortOutput}
 use Rattle.agreement.specs.Agreement.{agrees, kept}
 use Rattle.agreement.specs.Rows.{◌unless◌else◌, ◌when◌else◌}
-use Rattle.answers.specs.declared.Verdict.TheVariants as verdict
-use Rattle.answers.specs.declared.CoveredEdge.TheVariants as edge
+use Rattle.std.specs.Prelude.{Err, None, Ok, Option, Some}
 use Rattle.answers.specs.Judgement.{verdict_of, verdict_at}
 use Rattle.answers.specs.Edge.{at_or_before, latest_upto, covered_edge}
 use Rattle.frames.specs.declared.Frame.{Frame}
-use Rattle.frames.specs.declared.Frame.TheVariants.{End, Bad}
+use Rattle.frames.specs.declared.Frame.TheVariants.{End}
 use Rattle.frames.specs.Fields.{digit_count, field_digits, field_values}
-use Rattle.frames.specs.Frames.{line_length, ended_length, kind_of, kind_at, line_of, ended_line, frame_as, frame_of}
+use Rattle.frames.specs.Frames.{line_length, ended_length, kind_at, line_of, ended_line, frame_as, frame_of}
 use Rattle.frames.proofs.Rows.{length_fields}
 use Rattle.file.specs.Lines.{lines_from, rest_from, lines_of, rest_of}
-use Rattle.writing.specs.declared.WriteAnswer.TheVariants as write
-use Rattle.writing.specs.Writing.{bytes_of, s_frames, head_frame, file_of, kept_head, write_answer, write_number}
+use Rattle.writing.specs.Writing.{bytes_of, s_frames, head_frame, file_of, kept_head, write_answer}
 use Rattle.laws.specs.ByHand.{full}
 use Rattle.laws.specs.Lines.{judged, beginning, judged_file}
 use Rattle.laws.specs.Update.{with_update}
-use Rattle.laws.specs.OldAnswers.{old_window, old_needed, OldSpent, old_verdict, old_edge, old_held, old_widths, old_from, old_frame, old_file, NoUpdate, old_head_frame, old_file_of, old_written, two_heads, OldAnswersStand}
+use Rattle.laws.specs.OldAnswers.{old_window, old_needed, OldSpent, old_verdict, old_edge, old_held, old_widths, old_from, old_frame, old_file, kind_read, NoUpdate, old_head_frame, old_file_of, old_written, two_heads, OldAnswersStand}
 
 -- ---- the window, and what is told from it
 
@@ -58,23 +58,23 @@ module _ (h : Head) (z : h.update.0 ≡ 0) where
 -- two tests that agree have one latest clock
 same_latest : (p q : ℕ → Bool) → ((c : ℕ) → p c ≡ q c) → (n : ℕ) → latest_upto p n ≡ latest_upto q n
 unfolding latest_upto
-same_latest p q e zero = ap (λ b. cond b (edge.At (record { 0 = zero })) edge.Never) (e zero)
-same_latest p q e (suc n) = ap₂ (λ b m. cond b (edge.At (record { 0 = suc n })) m) (e (suc n)) (same_latest p q e n)
+same_latest p q e zero = ap (λ b. cond {A = Option Millis} b (Some (record { 0 = zero })) None) (e zero)
+same_latest p q e (suc n) = ap₂ (λ b m. cond {A = Option Millis} b (Some (record { 0 = suc n })) m) (e (suc n)) (same_latest p q e n)
 
 module _ (rec : Record) (ws : List ℕ) (z : rec.head.update.0 ≡ 0) where
   verdict_is : (c : WideMillis) → verdict_at rec ws c ≡ old_verdict rec ws c
   verdict_is c =
       ap
       (λ w.
-      verdict.Refused Disagreement unless agrees rec ws else
-      verdict.Refused ClockLimit unless clock_held c else
-      verdict.Refused EarlierClock unless leb rec.clock.0 c.0 else
-      verdict_of rec.head w (kept rec ws))
+      Err Disagreement unless agrees rec ws else
+      Err ClockLimit unless clock_held c else
+      Err EarlierClock unless leb rec.clock.0 c.0 else
+      Ok (verdict_of rec.head w (kept rec ws)))
       (window rec.head z c.0)
 
   edge_is : covered_edge rec ws ≡ old_edge rec ws
   edge_is =
-      ap (λ e. edge.Refused Disagreement unless agrees rec ws else e)
+      ap (λ (e : Option Millis). Err Disagreement unless agrees rec ws else Ok e)
       (same_latest (at_or_before rec.head rec.next.0) (λ c. le_z (old_window rec.head c).to (place rec.head rec.next.0))
       (λ c. ap (λ w. le_z w.to (place rec.head rec.next.0)) (window rec.head z c))
       largest_millis)
@@ -90,27 +90,27 @@ held h z = ap (λ (u : ℕ). head_held (with_update u h)) z ∙ and-true (old_he
 
 module _ (line : List ℕ) where
   -- the frame of a line that is taken for one of kind k
-  abbrev new_at : ℕ → Frame
-  new_at k = cond (are_digits line) (cond (eqb (length line) (line_length k)) (frame_as k line) Bad) Bad
+  abbrev new_at : ℕ → Option Frame
+  new_at k = cond (are_digits line) (cond (eqb (length line) (line_length k)) (frame_as k line) None) None
 
-  abbrev old_at : ℕ → Frame
-  old_at k = cond (are_digits line) (cond (eqb (length line) (digit_count (1 ∷ old_widths k))) (old_from k (field_values (old_widths k) (drop 2 line))) Bad) Bad
+  abbrev old_at : ℕ → Option Frame
+  old_at k = cond (are_digits line) (cond (eqb (length line) (digit_count (1 ∷ old_widths k))) (old_from k (field_values (old_widths k) (drop 2 line))) None) None
 
   -- of kind 05 only a head is a frame
-  at_five : (d l m : Bool) → (kind_of (cond d (cond l (frame_as 5 line) Bad) Bad) ≡ 5 → ⊥) → cond d (cond l (frame_as 5 line) Bad) Bad ≡ cond d (cond m Bad Bad) Bad
+  at_five : (d l m : Bool) → (kind_read (cond d (cond l (frame_as 5 line) None) None) ≡ 5 → ⊥) → cond d (cond l (frame_as 5 line) None) None ≡ cond d (cond m None None) None
   unfolding frame_as
   at_five false l m n = refl
   at_five true true m n = absurd (n refl)
   at_five true false true n = refl
   at_five true false false n = refl
 
-  line_is : (kind_of (frame_of line) ≡ 5 → ⊥) → frame_of line ≡ old_frame line
+  line_is : (kind_read (frame_of line) ≡ 5 → ⊥) → frame_of line ≡ old_frame line
   unfolding frame_of frame_as
   line_is n = go (eqb (kind_at line) 5) refl
     where
       go : (b : Bool) → eqb (kind_at line) 5 ≡ b → new_at (kind_at line) ≡ old_at (kind_at line)
       go true e =
-          subst⁻¹ (λ (k : ℕ). (kind_of (new_at k) ≡ 5 → ⊥) → new_at k ≡ old_at k) (eqb-true (kind_at line) 5 e)
+          subst⁻¹ (λ (k : ℕ). (kind_read (new_at k) ≡ 5 → ⊥) → new_at k ≡ old_at k) (eqb-true (kind_at line) 5 e)
           (at_five (are_digits line) (eqb (length line) (line_length 5)) (eqb (length line) 2))
           n
       go false e = simp (e)
@@ -183,7 +183,7 @@ moved m n room e = go (leb n room) refl
     go true l = le-leb m (room + 16) (omega (arith, leb-true n room l))
     go false l = lt-leb m (room + 16) (omega (arith, leb-false n room l))
 
-short : (rec : Record) (ws : List ℕ) (room : ℕ) → write_number (write_answer rec ws (room + 16)) ≡ write_number (old_written rec ws room)
+short : (rec : Record) (ws : List ℕ) (room : ℕ) → answer_number (write_answer rec ws (room + 16)) ≡ answer_number (old_written rec ws room)
 unfolding write_answer
 short rec ws room =
     go (agrees rec ws) (eqb rec.used 0) (leb m (room + 16)) (leb n room) (moved m n room (longer (kept_head rec) (kept rec ws)))
@@ -195,12 +195,12 @@ short rec ws room =
     n = length (old_file_of (kept_head rec) (kept rec ws))
 
     go : (a u x y : Bool) → x ≡ y →
-        write_number (write.Refused Disagreement unless a else write.Refused NothingKept when u else write.Refused ShortOutput unless x else write.Written m) ≡
-        write_number (write.Refused Disagreement unless a else write.Refused NothingKept when u else write.Refused ShortOutput unless y else write.Written n)
+        answer_number (Err Disagreement unless a else Err NothingKept when u else Err ShortOutput unless x else Ok m) ≡
+        answer_number (Err Disagreement unless a else Err NothingKept when u else Err ShortOutput unless y else Ok n)
     go false u x y e = refl
     go true true x y e = refl
-    go true false x true e = ap (λ b. write_number (cond b (write.Written m) (write.Refused ShortOutput))) e
-    go true false x false e = ap (λ b. write_number (cond b (write.Written m) (write.Refused ShortOutput))) e
+    go true false x true e = ap (λ b. answer_number (cond b (Ok m) (Err ShortOutput))) e
+    go true false x false e = ap (λ b. answer_number (cond b (Ok m) (Err ShortOutput))) e
 
 pub old_answers_stand : OldAnswersStand
 old_answers_stand =

@@ -18,8 +18,8 @@ use Rattle.runs.specs.Encoding.{push, encode, table_of}
 use Rattle.agreement.specs.declared.refusal.Refusal.{Refusal}
 use Rattle.agreement.specs.declared.refusal.Refusal.TheVariants.{Disagreement, ClockLimit}
 use Rattle.agreement.specs.Agreement.{every, agrees}
-use Rattle.keeping.specs.declared.Outcome.{Outcome}
-use Rattle.keeping.specs.declared.Outcome.TheVariants.{Accepted, Refused}
+use Rattle.std.specs.Prelude.{Err, Ok}
+use Rattle.keeping.specs.Keeping.{Outcome}
 use Rattle.keeping.specs.Keeping.{unspent, changed_by, words_by}
 use Rattle.keeping.specs.Append.{given, room_outcome, fit_outcome}
 use Rattle.timeline.specs.Opening.{open_outcome}
@@ -47,10 +47,10 @@ module _ (s : State) (x : Stamp) (d n : ℕ) (c : WideMillis) where
   unfolding pair_outcome
   judged a h =
       sym (answered s pair) ∙
-      ap₂ (λ t u. cond t (cond u (append_outcome s.rec s.words (stamp_standing x s.rec.next) d n) (Refused ClockLimit)) (Refused Disagreement)) a h ∙
+      ap₂ (λ t u. cond t (cond u (append_outcome s.rec s.words (stamp_standing x s.rec.next) d n) (Err ClockLimit)) (Err Disagreement)) a h ∙
       answered s (by_stamp x d n)
 
-  both : d ≤ largest_span → outcome_of s pair ≡ Accepted → (outcome_of s (by_stamp x d n) ≡ Accepted) × (outcome_of appended (trim_at c) ≡ Accepted)
+  both : d ≤ largest_span → outcome_of s pair ≡ Ok tt → (outcome_of s (by_stamp x d n) ≡ Ok tt) × (outcome_of appended (trim_at c) ≡ Ok tt)
   both narrow e =
       let o = answered s pair ∙ e in
       let st = stamp_standing x s.rec.next in (
@@ -58,13 +58,13 @@ module _ (s : State) (x : Stamp) (d n : ℕ) (c : WideMillis) where
         sym (answered appended (trim_at c)) ∙ pair_trim s.rec s.words st d n c narrow o,
       )
 
-  from_both : (outcome_of s (by_stamp x d n) ≡ Accepted) × (outcome_of appended (trim_at c) ≡ Accepted) → outcome_of s pair ≡ Accepted
+  from_both : (outcome_of s (by_stamp x d n) ≡ Ok tt) × (outcome_of appended (trim_at c) ≡ Ok tt) → outcome_of s pair ≡ Ok tt
   from_both (e, f) =
       let a = (taken s.rec s.words _ d n (answered s (by_stamp x d n) ∙ e)).agreed in
       let h = le-leb c.0 largest_millis (trim_passed appended.rec appended.words c (answered appended (trim_at c) ∙ f)).1 in
       judged a h ∙ e
 
-  pair_ends : outcome_of s pair ≡ Accepted → after s pair ≡ after appended (trim_at c)
+  pair_ends : outcome_of s pair ≡ Ok tt → after s pair ≡ after appended (trim_at c)
   pair_ends e = pair_done s x d n c (answered s pair ∙ e)
 
 -- ---- each call made apart
@@ -83,8 +83,8 @@ none_made s (trim_at c) = tt
 none_made s (pair_at t d n c) = go (outcome_of s (pair_at t d n c))
   where
     go : (o : Outcome) → NoPair (if_accepted o (by_stamp t d n ∷ trim_at c ∷ []))
-    go Accepted = tt
-    go (Refused why) = tt
+    go (Ok _) = tt
+    go (Err why) = tt
 
 none_left : (s : State) (cs : List Call) → NoPair (made_apart s cs)
 unfolding made_apart
@@ -104,8 +104,8 @@ ends s (pair_at t d n c ∷ cs) = go (outcome_of s (pair_at t d n c)) refl ∙ e
 
     go : (o : Outcome) → outcome_of s (pair_at t d n c) ≡ o →
         after_calls s (if_accepted o (by_stamp t d n ∷ trim_at c ∷ []) ++ rest) ≡ after_calls (after s (pair_at t d n c)) rest
-    go Accepted e = ap (λ x. after_calls x rest) (sym (pair_ends s t d n c e))
-    go (Refused why) e = ap (λ x. after_calls x rest) (sym (refused_stays s (pair_at t d n c) why e))
+    go (Ok _) e = ap (λ x. after_calls x rest) (sym (pair_ends s t d n c e))
+    go (Err why) e = ap (λ x. after_calls x rest) (sym (refused_stays s (pair_at t d n c) why e))
 
 -- ---- what calls come to, one after the other
 
@@ -115,9 +115,9 @@ record Gathers {A : Type 0} (join : A → A → A) (none : A) (each : State → 
   first : (s : State) (c : Call) (cs : List Call) → all s (c ∷ cs) ≡ join (each s c) (all (after s c) cs)
   left : (x : A) → join none x ≡ x
   along : (x y z : A) → join (join x y) z ≡ join x (join y z)
-  two : (s : State) (x : Stamp) (d n : ℕ) (c : WideMillis) → d ≤ largest_span → outcome_of s (pair_at x d n c) ≡ Accepted →
+  two : (s : State) (x : Stamp) (d n : ℕ) (c : WideMillis) → d ≤ largest_span → outcome_of s (pair_at x d n c) ≡ Ok tt →
       each s (pair_at x d n c) ≡ join (each s (by_stamp x d n)) (each (after s (by_stamp x d n)) (trim_at c))
-  no_one : (s : State) (x : Stamp) (d n : ℕ) (c : WideMillis) (why : Refusal) → outcome_of s (pair_at x d n c) ≡ Refused why → each s (pair_at x d n c) ≡ none
+  no_one : (s : State) (x : Stamp) (d n : ℕ) (c : WideMillis) (why : Refusal) → outcome_of s (pair_at x d n c) ≡ Err why → each s (pair_at x d n c) ≡ none
 
 module _ {A : Type 0} {join : A → A → A} {none : A} {each : State → Call → A} {all : State → List Call → A} (g : Gathers join none each all) where
   one_more : (s : State) (c : Call) (cs ds : List Call) → all (after s c) cs ≡ all (after s c) ds → all s (c ∷ cs) ≡ all s (c ∷ ds)
@@ -140,24 +140,24 @@ module _ {A : Type 0} {join : A → A → A} {none : A} {each : State → Call �
 
       go : (o : Outcome) → outcome_of s pair' ≡ o →
           all s (if_accepted o (by_stamp t d n ∷ trim_at c ∷ []) ++ rest) ≡ join (each s pair') (all (after s pair') rest)
-      go Accepted e =
+      go (Ok _) e =
           let a = after s (by_stamp t d n) in
           g.first s (by_stamp t d n) (trim_at c ∷ rest) ∙
           ap (join (each s (by_stamp t d n))) (g.first a (trim_at c) rest) ∙
           sym (g.along (each s (by_stamp t d n)) (each a (trim_at c)) (all (after a (trim_at c)) rest)) ∙
           ap₂ (λ x y. join x (all y rest)) (sym (g.two s t d n c p.0 e)) (sym (pair_ends s t d n c e))
-      go (Refused why) e =
+      go (Err why) e =
           ap (λ x. all x rest) (sym (refused_stays s (pair_at t d n c) why e)) ∙
           sym (g.left (all (after s pair') rest)) ∙
           ap (λ x. join x (all (after s pair') rest)) (sym (g.no_one s t d n c why e))
 
 -- a trim brings no append and no reference, however it ends
 nothing_brought : {A : Type 0} (o : Outcome) → if_accepted {A = A} o [] ≡ []
-nothing_brought Accepted = refl
-nothing_brought (Refused why) = refl
+nothing_brought (Ok _) = refl
+nothing_brought (Err why) = refl
 
 -- what is brought by the outcome, once by a pair and once by its append
-brought_once : {A : Type 0} (xs : List A) (o p q : Outcome) → o ≡ Accepted → p ≡ Accepted → if_accepted o xs ≡ if_accepted p xs ++ if_accepted q []
+brought_once : {A : Type 0} (xs : List A) (o p q : Outcome) → o ≡ Ok tt → p ≡ Ok tt → if_accepted o xs ≡ if_accepted p xs ++ if_accepted q []
 brought_once xs o p q e f = ap (λ y. if_accepted y xs) (e ∙ sym f) ∙ sym (append-nil (if_accepted p xs)) ∙ ap (λ ys. if_accepted p xs ++ ys) (sym (nothing_brought q))
 
 the_appends : Gathers ◌++◌ [] (λ s c. if_accepted (outcome_of s c) (appends_of c)) accepted_appends

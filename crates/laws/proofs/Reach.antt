@@ -20,9 +20,9 @@ use Rattle.window.proofs.Unsigned.{end_at, before_is}
 use Rattle.runs.specs.Words.{repeated}
 use Rattle.agreement.specs.declared.refusal.Refusal.TheVariants as refusal
 use Rattle.agreement.specs.Agreement.{agrees}
-use Rattle.keeping.specs.declared.Outcome.{Outcome}
-use Rattle.keeping.specs.declared.Outcome.TheVariants.{Refused}
-use Rattle.keeping.specs.Keeping.{outcome_number}
+use Rattle.std.specs.Prelude.{Err}
+use Rattle.keeping.specs.Keeping.{Outcome}
+use Rattle.agreement.specs.Numbers.{answer_number}
 use Rattle.keeping.specs.Append.{fit_outcome}
 use Rattle.keeping.proofs.Outcomes.{outcome_beside as told}
 use Rattle.timeline.specs.Appending.{unjoined◌else◌, append_outcome}
@@ -67,18 +67,18 @@ least_before h s d n b l zero k = ap (before_end h) (omega arith) ∙ b
 least_before h s d n b l (suc m) k = before_unless h (s + d * suc m) (l.least (suc m) (omega arith) k)
 
 -- the tests one after the other, by what the last of them come to
-by_tests : (z k f : Bool) (st : Standing) (o : Outcome) (after before past : Bool) (rows : List (Bool × ℕ)) →
-    eqb (standing_number st) 4 ≡ after → eqb (standing_number st) 5 ≡ before → (z ≡ false → f ≡ false → past ≡ true) →
-    (z ≡ false → k ≡ false → f ≡ true → outcome_number o ≡ lowest ((past, 8) ∷ rows)) →
-    outcome_number (cond z (Refused refusal.NothingGiven) (unjoined st else cond (not k) (cond f o (Refused refusal.PastEnd)) (Refused refusal.NoEndToReach))) ≡
-    lowest ((z, 3) ∷ (after, 4) ∷ (before, 5) ∷ (k, 18) ∷ (past, 8) ∷ rows)
-by_tests true k f st o after before past rows a b p q = refl
-by_tests false k f (Gap d) o after before past rows a b p q = ap (λ t. lowest ((t, 4) ∷ (before, 5) ∷ (k, 18) ∷ (past, 8) ∷ rows)) a
-by_tests false k f (Overlap d) o after before past rows a b p q = ap₂ (λ t u. lowest ((t, 4) ∷ (u, 5) ∷ (k, 18) ∷ (past, 8) ∷ rows)) a b
-by_tests false true f Joins o after before past rows a b p q = ap₂ (λ t u. lowest ((t, 4) ∷ (u, 5) ∷ (true, 18) ∷ (past, 8) ∷ rows)) a b
-by_tests false false false Joins o after before past rows a b p q =
+by_tests : (z k f : Bool) (st : Standing) (o : Outcome) (ahead behind past : Bool) (rows : List (Bool × ℕ)) →
+    eqb (standing_number st) 4 ≡ ahead → eqb (standing_number st) 5 ≡ behind → (z ≡ false → f ≡ false → past ≡ true) →
+    (z ≡ false → k ≡ false → f ≡ true → answer_number o ≡ lowest ((past, 8) ∷ rows)) →
+    answer_number (cond z (Err refusal.NothingGiven) (unjoined st else cond (not k) (cond f o (Err refusal.PastEnd)) (Err refusal.NoEndToReach))) ≡
+    lowest ((z, 3) ∷ (ahead, 4) ∷ (behind, 5) ∷ (k, 18) ∷ (past, 8) ∷ rows)
+by_tests true k f st o ahead behind past rows a b p q = refl
+by_tests false k f (Gap d) o ahead behind past rows a b p q = ap (λ t. lowest ((t, 4) ∷ (behind, 5) ∷ (k, 18) ∷ (past, 8) ∷ rows)) a
+by_tests false k f (Overlap d) o ahead behind past rows a b p q = ap₂ (λ t u. lowest ((t, 4) ∷ (u, 5) ∷ (k, 18) ∷ (past, 8) ∷ rows)) a b
+by_tests false true f Joins o ahead behind past rows a b p q = ap₂ (λ t u. lowest ((t, 4) ∷ (u, 5) ∷ (true, 18) ∷ (past, 8) ∷ rows)) a b
+by_tests false false false Joins o ahead behind past rows a b p q =
     ap (λ t. lowest ((t, 8) ∷ rows)) (sym (p refl refl)) ∙ ap₂ (λ t u. lowest ((t, 4) ∷ (u, 5) ∷ (past, 8) ∷ rows)) a b
-by_tests false false true Joins o after before past rows a b p q =
+by_tests false false true Joins o ahead behind past rows a b p q =
     q refl refl refl ∙ ap₂ (λ t u. lowest ((t, 4) ∷ (u, 5) ∷ (past, 8) ∷ rows)) a b
 
 -- where 2 to 5 and 8 do not hold, 8 may stand before 6
@@ -120,7 +120,7 @@ module _ (x : State) (start : WideTick) (d : ℕ) (agreed : agrees x.rec x.words
           none_past x.rec.head x.rec.next.0 d counted (least_before x.rec.head x.rec.next.0 d counted f count_is)
 
       -- it is an append that joins, from 6 on
-      rows_fit : outcome_number (fit_outcome x.rec x.words d counted) ≡
+      rows_fit : answer_number (fit_outcome x.rec x.words d counted) ≡
           lowest ((starts_past x.rec d counted, 8) ∷ (six, 6) ∷ (seven, 7) ∷ (nine, 9) ∷ [])
       rows_fit =
           let next = x.rec.next.0 in
@@ -128,7 +128,7 @@ module _ (x : State) (start : WideTick) (d : ℕ) (agreed : agrees x.rec x.words
           let none : eqb counted 0 ≡ false = ne_eqb counted 0 (λ e. let w : ⊥ = omega (arith, count_is.some) in w) in
           let joined : tick_standing self x.rec.next ≡ Joins = ap (λ b. standing_by b (ltb next next) (next - next) (next - next)) (eq-eqb next next refl) in
           let still : ltb next next ≡ false = le-ltb next next (le_refl next) in
-          ap outcome_number
+          ap answer_number
           (sym
           (told (append_outcome x.rec x.words (tick_standing self x.rec.next) d counted) _ _ ∙
           stands_joins x.rec x.words (tick_standing self x.rec.next) d counted agreed (eqb-false d 0 z) (eqb-false counted 0 none) joined)) ∙
@@ -136,7 +136,7 @@ module _ (x : State) (start : WideTick) (d : ℕ) (agreed : agrees x.rec x.words
           eight_first (agrees x.rec x.words) (eqb d 0 || eqb counted 0) (ltb next next) (ltb next next) six seven (starts_past x.rec d counted) nine
           agreed (ap₂ ◌||◌ z none) still still rows_before
 
-  pub reach_number : outcome_number (reach_outcome x.rec x.words (tick_standing start x.rec.next) d (least_count x.rec.head x.rec.next.0 d)) ≡
+  pub reach_number : answer_number (reach_outcome x.rec x.words (tick_standing start x.rec.next) d (least_count x.rec.head x.rec.next.0 d)) ≡
       lowest (reach_rows x start.0 d (least_count x.rec.head x.rec.next.0 d))
   unfolding reach_outcome
   reach_number =

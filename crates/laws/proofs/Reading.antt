@@ -7,9 +7,9 @@ use lib.Dec.{ltb}
 use lib.ListN.{length}
 use Rattle.window.specs.declared.Head.{Head}
 use Rattle.agreement.specs.declared.Record.{Record}
-use Rattle.keeping.specs.declared.Outcome.{Outcome}
-use Rattle.keeping.specs.declared.Outcome.TheVariants.{Accepted, Refused}
-use Rattle.keeping.specs.Keeping.{outcome_number, outcome_distance}
+use Rattle.std.specs.Prelude.{Some, Err, Ok}
+use Rattle.keeping.specs.Keeping.{Outcome}
+use Rattle.agreement.specs.Numbers.{answer_distance, answer_number}
 use Rattle.keeping.proofs.Outcomes.{outcome_beside as told, number_accepted}
 use Rattle.timeline.specs.Opening.{open_outcome}
 use Rattle.frames.specs.declared.Frame.{Frame}
@@ -25,70 +25,65 @@ use Rattle.file.specs.Lines.{lines_of, rest_of}
 use Rattle.file.specs.Judging.{head_in, read_lines, read_outcome, answered_by, read_answer, read_table}
 use Rattle.file.proofs.Never.{never_disagrees}
 use Rattle.file.proofs.Places.{narrow}
-use Rattle.writing.specs.Writing.{bytes_of}
 use Rattle.writing.proofs.Back.{rest_of_frames}
 use Rattle.laws.specs.Calls.{Call, Plain, State, after, after_calls, all_accepted, clock_of, greatest}
 use Rattle.laws.specs.History.{Holds}
 use Rattle.laws.specs.Refusals.{is_apart}
-use Rattle.laws.specs.Lines.{opening_tick, Result, accepted, judged, beginning, judged_file}
+use Rattle.laws.specs.Lines.{opening_tick, FileResult, accepted, judged, beginning, judged_file}
 use Rattle.laws.specs.Reading.{file_frames, StandFor, opening_of, ReadsAs, IsFile, ReadingRight}
 use Rattle.laws.proofs.Histories.{demand_3}
 use Rattle.laws.proofs.LineByLine.{read_result, none, same_way, all_sure}
-use Rattle.laws.proofs.Bytes.{frames_again, AllFrames, AllNarrow, all_narrow, bytes_again}
+use Rattle.laws.proofs.Bytes.{frames_again, AllNarrow, all_narrow, bytes_again}
 use Rattle.laws.proofs.WholeFile.{Whole, whole_only, whole_if}
 
 -- ---- by the rows
 
 module _ (bytes came : List ℕ) where
   outcome_is : (o : Outcome) (r : Read) → (answered_by o r).outcome ≡ o
-  outcome_is Accepted r = refl
-  outcome_is (Refused why) r = refl
+  outcome_is (Ok _) r = refl
+  outcome_is (Err why) r = refl
 
   -- what the reader answers, put together
   result_is : read_result came (read_lines bytes came) (rest_of bytes) ≡ judged_file bytes came
   unfolding read_lines
   result_is = same_way came (lines_of bytes) (rest_of bytes) (beginning came) 0 none
 
-  number_is : outcome_number (read_answer bytes came).outcome ≡ (judged_file bytes came).number
+  number_is : answer_number (read_answer bytes came).outcome ≡ (judged_file bytes came).number
   unfolding read_answer read_outcome
-  number_is = ap outcome_number (outcome_is (read_outcome bytes came) (read_lines bytes came).reading) ∙ ap (λ (r : Result). r.number) result_is
+  number_is = ap answer_number (outcome_is (read_outcome bytes came) (read_lines bytes came).reading) ∙ ap (λ (r : FileResult). r.number) result_is
 
-  distance_is : outcome_distance (read_answer bytes came).outcome ≡ (judged_file bytes came).distance
+  distance_is : answer_distance (read_answer bytes came).outcome ≡ (judged_file bytes came).distance
   unfolding read_answer read_outcome
-  distance_is = ap outcome_distance (outcome_is (read_outcome bytes came) (read_lines bytes came).reading) ∙ ap (λ (r : Result). r.distance) result_is
+  distance_is = ap answer_distance (outcome_is (read_outcome bytes came) (read_lines bytes came).reading) ∙ ap (λ (r : FileResult). r.distance) result_is
 
   -- a distance comes with 4 and 5, and with no other number
-  pub distance_sure : ltb 0 (outcome_distance (read_answer bytes came).outcome) ≡ is_apart (outcome_number (read_answer bytes came).outcome)
+  pub distance_sure : ltb 0 (answer_distance (read_answer bytes came).outcome) ≡ is_apart (answer_number (read_answer bytes came).outcome)
   distance_sure = ap (ltb 0) distance_is ∙ all_sure came (lines_of bytes) (rest_of bytes) (beginning came) 0 none ∙ ap is_apart (sym number_is)
 
   line_is : (read_answer bytes came).line ≡ (judged_file bytes came).line
   unfolding read_answer read_outcome
-  line_is = ap (λ (r : Result). r.line) result_is
+  line_is = ap (λ (r : FileResult). r.line) result_is
 
   record_is : (read_answer bytes came).rec ≡ (judged_file bytes came).rec
   unfolding read_answer read_outcome
-  record_is = ap (λ (r : Result). r.rec) result_is
+  record_is = ap (λ (r : FileResult). r.rec) result_is
 
   words_are : read_table bytes came ≡ (judged_file bytes came).words
   unfolding read_table read_outcome
-  words_are = ap (λ (r : Result). r.words) result_is
+  words_are = ap (λ (r : FileResult). r.words) result_is
 
 -- ---- the lines of a file
 
 -- durations of 32 bits
-fit_narrow : (fs : List Frame) → AllFit fs → AllNarrow fs
+fit_narrow : (fs : List Frame) → AllFit fs → AllNarrow (map Some fs)
 fit_narrow [] a = tt
-fit_narrow (f ∷ fs) a = (narrow (line_of f) f (sym (frame_written_read f a.0)), fit_narrow fs a.1)
+fit_narrow (f ∷ fs) a = (narrow (line_of f) (Some f) (sym (frame_written_read f a.0)), fit_narrow fs a.1)
 
-front : (ss : List SFields) (fs : List Frame) → AllNarrow (map S ss ++ fs) → AllNarrow (map S ss)
+front : (ss : List SFields) (fs : List Frame) → AllNarrow (map Some (map S ss ++ fs)) → AllNarrow (map Some (map S ss))
 front [] fs w = tt
 front (s ∷ ss) fs w = (w.0, front ss fs w.1)
 
-all_frames : (ss : List SFields) (n : ℕ) → AllFrames (map S ss ++ End n ∷ [])
-all_frames [] n = (refl, tt)
-all_frames (s ∷ ss) n = (refl, all_frames ss n)
-
-plain : (x : State) (ss : List SFields) (cs : List Call) → AllNarrow (map S ss) → StandFor x ss cs → Plain cs
+plain : (x : State) (ss : List SFields) (cs : List Call) → AllNarrow (map Some (map S ss)) → StandFor x ss cs → Plain cs
 plain x [] [] w st = tt
 plain x [] (c ∷ cs) w st = absurd st
 plain x (s ∷ ss) [] w st = absurd st
@@ -108,7 +103,7 @@ module _ (bytes came : List ℕ) (x : HeadLine) (s : SFields) (ss : List SFields
   abbrev h : Head
   h = head_in x
 
-  narrowed : AllNarrow (map S (s ∷ ss))
+  narrowed : AllNarrow (map Some (map S (s ∷ ss)))
   narrowed = front (s ∷ ss) (End (length (s ∷ ss)) ∷ []) (fit_narrow (file_frames x (s ∷ ss)) f.fit).1
 
   judged_as : judged_file bytes came ≡ accepted (after_calls (opening_of h s came) cs)
@@ -117,19 +112,19 @@ module _ (bytes came : List ℕ) (x : HeadLine) (s : SFields) (ss : List SFields
       ap₂ (judged came (beginning came) 1) (frames_again (file_frames x (s ∷ ss)) f.fit) (rest_of_frames (file_frames x (s ∷ ss))) ∙
       whole_if came x s ss cs narrowed f.last (sym (told (open_outcome h (opening_tick s)) _ _) ∙ f.opens) f.stand f.accepted
 
-  file_accepted : (read_answer bytes came).outcome ≡ Accepted
-  file_accepted = number_accepted (read_answer bytes came).outcome (number_is bytes came ∙ ap (λ (r : Result). r.number) judged_as)
+  file_accepted : (read_answer bytes came).outcome ≡ Ok tt
+  file_accepted = number_accepted (read_answer bytes came).outcome (number_is bytes came ∙ ap (λ (r : FileResult). r.number) judged_as)
 
-  file_answer : read_answer bytes came ≡ record { outcome = Accepted; rec = (after_calls (opening_of h s came) cs).rec; line = 0 }
+  file_answer : read_answer bytes came ≡ record { outcome = Ok tt; rec = (after_calls (opening_of h s came) cs).rec; line = 0 }
   file_answer =
-      ◌∙◌ {b = record { outcome = Accepted; rec = (read_answer bytes came).rec; line = (read_answer bytes came).line }}
+      ◌∙◌ {b = record { outcome = Ok tt; rec = (read_answer bytes came).rec; line = (read_answer bytes came).line }}
       (ap (λ o. record { outcome = o; rec = (read_answer bytes came).rec; line = (read_answer bytes came).line }) file_accepted)
-      (ap₂ (λ (r : Record) (n : ℕ). record { outcome = Accepted; rec = r; line = n })
-      (record_is bytes came ∙ ap (λ (r : Result). r.rec) judged_as)
-      (line_is bytes came ∙ ap (λ (r : Result). r.line) judged_as))
+      (ap₂ (λ (r : Record) (n : ℕ). record { outcome = Ok tt; rec = r; line = n })
+      (record_is bytes came ∙ ap (λ (r : FileResult). r.rec) judged_as)
+      (line_is bytes came ∙ ap (λ (r : FileResult). r.line) judged_as))
 
   file_table : read_table bytes came ≡ (after_calls (opening_of h s came) cs).words
-  file_table = words_are bytes came ∙ ap (λ (r : Result). r.words) judged_as
+  file_table = words_are bytes came ∙ ap (λ (r : FileResult). r.words) judged_as
 
   file_plain : Plain cs
   file_plain = plain (opening_of h s came) (s ∷ ss) cs narrowed f.stand
@@ -142,23 +137,22 @@ module _ (bytes came : List ℕ) (x : HeadLine) (s : SFields) (ss : List SFields
       (ap₂ (λ (r : Record) ws. record { rec = r; words = ws }) (ap (λ (a : ReadAnswer). a.rec) file_answer) file_table)
       (demand_3.holds h (opening_tick s) came (sym (told (open_outcome h (opening_tick s)) _ _) ∙ f.opens) cs file_plain))
 
-module _ (bytes came : List ℕ) (o : (read_answer bytes came).outcome ≡ Accepted) where
+module _ (bytes came : List ℕ) (o : (read_answer bytes came).outcome ≡ Ok tt) where
   whole : Whole came (map frame_of (lines_of bytes)) (rest_of bytes)
   whole =
-      whole_only came (rest_of bytes) (map frame_of (lines_of bytes)) (all_narrow (lines_of bytes)) (sym (number_is bytes came) ∙ ap outcome_number o)
+      whole_only came (rest_of bytes) (map frame_of (lines_of bytes)) (all_narrow (lines_of bytes)) (sym (number_is bytes came) ∙ ap answer_number o)
 
   is_file : IsFile bytes came
   is_file =
       let w = whole in
-      let frames = subst⁻¹ AllFrames w.frames (refl, all_frames (w.s ∷ w.ss) (length (w.s ∷ w.ss))) in
-      let again = bytes_again bytes w.done frames in (
+      let again = bytes_again bytes (file_frames w.line (w.s ∷ w.ss)) w.done w.frames in (
         w.line,
         w.s,
         w.ss,
         w.cs,
         record {
-          lines = again.0 ∙ ap bytes_of w.frames;
-          fit = subst AllFit w.frames again.1;
+          lines = again.0;
+          fit = again.1;
           last = w.last;
           opens = told (open_outcome (head_in w.line) (opening_tick w.s)) _ _ ∙ w.opens;
           stand = w.stand;

@@ -16,10 +16,10 @@ use Rattle.units.specs.Standing.{standing_by, tick_standing}
 use Rattle.runs.proofs.Tables.{canonical_length}
 use Rattle.agreement.specs.declared.refusal.Refusal.{Refusal}
 use Rattle.agreement.specs.Agreement.{agrees}
-use Rattle.agreement.specs.Numbers.{refusal_number}
-use Rattle.keeping.specs.declared.Outcome.{Outcome}
-use Rattle.keeping.specs.declared.Outcome.TheVariants as outcome
-use Rattle.keeping.specs.Keeping.{words_keeping, outcome_number, changed_by, words_by}
+use Rattle.agreement.specs.Numbers.{refusal_number, answer_number}
+use Rattle.std.specs.Prelude.{Err, Ok}
+use Rattle.keeping.specs.Keeping.{Outcome}
+use Rattle.keeping.specs.Keeping.{words_keeping, changed_by, words_by}
 use Rattle.keeping.specs.Append.{unspent_of, appended}
 use Rattle.keeping.proofs.Outcomes.{outcome_beside as told}
 use Rattle.timeline.specs.Appending.{append_outcome}
@@ -76,7 +76,7 @@ pub data Taken (x : State) (s : SFields) (n : ℕ) (z : File) : Type 0 where
       z ≡ record { reading = record { stage = cond (negative s) Filled Open; lines = n + 1; rec = (after x (call_of x s)).rec }; words = (after x (call_of x s)).words } →
       agrees (after x (call_of x s)).rec (after x (call_of x s)).words ≡ true → length (after x (call_of x s)).words ≡ length x.words → Taken x s n z
   off : (why : Refusal) → z.reading.stage ≡ Refused why → z.reading.lines ≡ n → lowest (appended_rows x s) ≡ refusal_number why →
-      Told (outcome.Refused why) (start_of x.rec.next.0 s - x.rec.next.0) (x.rec.next.0 - start_of x.rec.next.0 s) → Taken x s n z
+      Told (Err why) (start_of x.rec.next.0 s - x.rec.next.0) (x.rec.next.0 - start_of x.rec.next.0 s) → Taken x s n z
 
 module _ (x : State) (s : SFields) (n : ℕ) (st : Stage) (agreed : agrees x.rec x.words ≡ true) (narrow : s.d ≤ largest_span) where
   abbrev start : WideTick
@@ -89,7 +89,7 @@ module _ (x : State) (s : SFields) (n : ℕ) (st : Stage) (agreed : agrees x.rec
   before = record { stage = st; lines = n; rec = x.rec }
 
   -- what is left where m references are appended
-  left_is : (m : ℕ) → append_outcome x.rec x.words standing s.d m ≡ outcome.Accepted →
+  left_is : (m : ℕ) → append_outcome x.rec x.words standing s.d m ≡ Ok tt →
       after x (by_tick start s.d m) ≡
       record { rec = appended x.rec x.words s.d m; words = words_keeping x.words (unspent_of x.rec x.words s.d m) }
   unfolding changed_by words_by
@@ -102,12 +102,12 @@ module _ (x : State) (s : SFields) (n : ℕ) (st : Stage) (agreed : agrees x.rec
       e
 
   -- by an outcome that is the rows', with m references of which the append is accepted where that is
-  by_outcome : (o : Outcome) (goal : Stage) (m : ℕ) → lowest (appended_rows x s) ≡ outcome_number o → Told o (start.0 - x.rec.next.0) (x.rec.next.0 - start.0) →
+  by_outcome : (o : Outcome) (goal : Stage) (m : ℕ) → lowest (appended_rows x s) ≡ answer_number o → Told o (start.0 - x.rec.next.0) (x.rec.next.0 - start.0) →
       cond (negative s) Filled Open ≡ goal →
-      (o ≡ outcome.Accepted → (count_of x s ≡ m) × (append_outcome x.rec x.words standing s.d m ≡ outcome.Accepted)) →
+      (o ≡ Ok tt → (count_of x s ≡ m) × (append_outcome x.rec x.words standing s.d m ≡ Ok tt)) →
       Taken x s n (appended_by o goal before x.words s.d m)
   unfolding settled_reading words_by
-  by_outcome outcome.Accepted goal m e t g f =
+  by_outcome (Ok _) goal m e t g f =
       let d = s.d in
       let o = (f refl).1 in
       let is : after x (call_of x s) ≡ record { rec = appended x.rec x.words d m; words = words_keeping x.words (unspent_of x.rec x.words d m) } =
@@ -118,7 +118,7 @@ module _ (x : State) (s : SFields) (n : ℕ) (st : Stage) (agreed : agrees x.rec
       (ap (λ (y : State). agrees y.rec y.words) is ∙ accepted_keeps x.rec x.words standing d m narrow o)
       (ap (λ (y : State). length y.words) is ∙
       canonical_length (length x.words) (unspent_of x.rec x.words d m) (taken x.rec x.words standing d m o).room)
-  by_outcome (outcome.Refused why) goal m e t g f = off why refl refl e t
+  by_outcome (Err why) goal m e t g f = off why refl refl e t
 
   -- the rows by the sign of r, with the count that goes with it
   abbrev count_by : Bool → ℕ
@@ -133,26 +133,26 @@ module _ (x : State) (s : SFields) (n : ℕ) (st : Stage) (agreed : agrees x.rec
   abbrev searched : ℕ
   searched = least_count x.rec.head x.rec.next.0 s.d
 
-  plain_number : negative s ≡ false → lowest (appended_rows x s) ≡ outcome_number (append_outcome x.rec x.words standing s.d (s.r + 1))
+  plain_number : negative s ≡ false → lowest (appended_rows x s) ≡ answer_number (append_outcome x.rec x.words standing s.d (s.r + 1))
   plain_number e =
       ap (λ b. lowest (rows_by b)) e ∙
       sym (append x.rec x.words s.d (s.r + 1) narrow start) ∙
-      ap outcome_number (told (append_outcome x.rec x.words standing s.d (s.r + 1)) _ _)
+      ap answer_number (told (append_outcome x.rec x.words standing s.d (s.r + 1)) _ _)
 
   module _ (e : negative s ≡ true) where
-    negative_number : lowest (appended_rows x s) ≡ outcome_number (reach_outcome x.rec x.words standing s.d searched)
+    negative_number : lowest (appended_rows x s) ≡ answer_number (reach_outcome x.rec x.words standing s.d searched)
     negative_number = ap (λ b. lowest (rows_by b)) e ∙ sym (reach_number x start s.d agreed narrow)
 
     -- accepted, it is an append of the count that the rows have
-    negative_taken : reach_outcome x.rec x.words standing s.d searched ≡ outcome.Accepted →
-        (count_of x s ≡ searched) × (append_outcome x.rec x.words standing s.d searched ≡ outcome.Accepted)
+    negative_taken : reach_outcome x.rec x.words standing s.d searched ≡ Ok tt →
+        (count_of x s ≡ searched) × (append_outcome x.rec x.words standing s.d searched ≡ Ok tt)
     negative_taken o = (ap count_by e, sym (told (append_outcome x.rec x.words standing s.d searched) _ _) ∙ passed.taken)
       where
         passed : Reaches x start s.d searched agreed narrow
         passed =
             reach_only x start s.d searched agreed narrow
             (λ z. (least_holds x.rec.head x.rec.next.0 s.d (omega (arith, eqb-false s.d 0 z))).some)
-            (sym (reach_number x start s.d agreed narrow) ∙ ap outcome_number o)
+            (sym (reach_number x start s.d agreed narrow) ∙ ap answer_number o)
 
   -- the line by the sign of r
   by_sign : (c : Bool) → ltb s.r first_negative ≡ c →

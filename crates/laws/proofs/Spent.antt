@@ -29,7 +29,7 @@ use Rattle.agreement.specs.declared.Record.{Record}
 use Rattle.agreement.specs.declared.refusal.Refusal.TheVariants.{Disagreement, ClockLimit}
 use Rattle.agreement.specs.Agreement.{kept, agrees}
 use Rattle.agreement.proofs.Agreeing as tests
-use Rattle.keeping.specs.declared.Outcome.TheVariants.{Accepted, Refused}
+use Rattle.std.specs.Prelude.{Err, Ok}
 use Rattle.keeping.specs.Keeping.{unspent, words_keeping, changed_by, words_by}
 use Rattle.keeping.specs.Append.{given}
 use Rattle.keeping.proofs.Unspent.{unspent_every, unspent_few}
@@ -110,7 +110,7 @@ module _ (s : State) (t : ℕ) (all : List Reference) (joined : EndToStart t all
 
 -- ---- a trim
 
-module _ (s : State) (c : WideMillis) (o : trim_outcome s.rec s.words c ≡ Accepted) where
+module _ (s : State) (c : WideMillis) (o : trim_outcome s.rec s.words c ≡ Ok tt) where
   trim_keeping : Keeps s (after s (trim_at c)) (max s.rec.clock.0 c.0) (kept_by s)
   trim_keeping =
       let p = trim_passed s.rec s.words c o in
@@ -129,10 +129,10 @@ module _ (rec : Record) (ws : List ℕ) (c : WideMillis) (a : agrees rec ws ≡ 
   facts : tests.Agreeing rec ws
   facts = tests.agreeing rec ws a
 
-  taken_up : trim_outcome rec ws c ≡ Accepted
+  taken_up : trim_outcome rec ws c ≡ Ok tt
   unfolding trim_outcome
   taken_up =
-      ap₂ (λ x y. cond x (cond y Accepted (Refused ClockLimit)) (Refused Disagreement)) a
+      ap₂ (λ x y. cond x (cond y (Ok tt) (Err ClockLimit)) (Err Disagreement)) a
       (le-leb c.0 largest_millis (omega (arith, facts.held.clock)))
 
   none_spent : unspent_at rec ws c.0 ≡ kept rec ws
@@ -146,7 +146,7 @@ module _ (rec : Record) (ws : List ℕ) (c : WideMillis) (a : agrees rec ws ≡ 
       ap₂ (λ (d u : ℕ). record { head = rec.head; accepted = rec.accepted; dropped = d; next = rec.next; clock = rec.clock; used = u })
       (omega arith) (runs_for_kept rec.used ws facts.table)
 
-  trim_earlier : (trim_answer rec ws c ≡ record { outcome = Accepted; rec = rec }) × (trim_table rec ws c ≡ ws)
+  trim_earlier : (trim_answer rec ws c ≡ record { outcome = Ok tt; rec = rec }) × (trim_table rec ws c ≡ ws)
   unfolding changed_by words_by
   trim_earlier = (
     ap₂ (λ o r. changed_by o r rec) taken_up same_record,
@@ -161,7 +161,7 @@ unfolding last_end
 join_next t next [] new j e k = (next, k)
 join_next t next (r ∷ rs) new j e k = (t, join_append t (r ∷ rs) new j (subst⁻¹ (λ (m : ℕ). EndToStart m new) e k))
 
-module _ (s : State) (st : Standing) (d n : ℕ) (o : append_outcome s.rec s.words st d n ≡ Accepted) where
+module _ (s : State) (st : Standing) (d n : ℕ) (o : append_outcome s.rec s.words st d n ≡ Ok tt) where
   append_keeping : d ≤ largest_span → Keeps s (append_to s st d n) s.rec.clock.0 (kept_by s ++ given s.rec d n)
   append_keeping narrow =
       let k = taken s.rec s.words st d n o in

@@ -9,8 +9,7 @@ use borrow.Author.Tests.{ltb-true, ltb-false, leb-true, leb-false}
 use lib.Dec.{leb, ltb}
 use Rattle.units.specs.declared.Stamp.{Stamp}
 use Rattle.units.specs.declared.Tick.{Tick}
-use Rattle.units.specs.declared.full.Full.{Full}
-use Rattle.units.specs.declared.full.Full.TheVariants as full
+use Rattle.std.specs.Prelude.{Err, Ok, None, Option, Some}
 use Rattle.units.specs.Full.{full_tick}
 use Rattle.units.specs.Limits.{largest_tick}
 use Rattle.units.specs.Standing.{less32, tick_standing, stamp_standing}
@@ -25,9 +24,7 @@ use Rattle.runs.specs.Ends.{last_end}
 use Rattle.agreement.specs.Agreement.{every, agrees}
 use Rattle.keeping.specs.Keeping.{changed_by, words_by}
 use Rattle.timeline.specs.Opening.{open_outcome}
-use Rattle.lookups.specs.declared.stamps.FullTick.{FullTick}
-use Rattle.lookups.specs.declared.stamps.FullTick.TheVariants.{At, Nowhere, Refused}
-use Rattle.lookups.specs.Stamps.{found_tick, full_tick_in}
+use Rattle.lookups.specs.Stamps.{full_tick_in}
 use Rattle.laws.specs.Stamps.{Shows, FullTickRight}
 
 -- ---- the tick by the distance
@@ -71,8 +68,8 @@ module _ (s : Stamp) (next : Tick) (small : s.0 < 2 ^ 32) (d : ℕ) (is : d ≡ 
   shown = ap (λ x. (next.0 + x) % 2 ^ 32) is ∙ distance_shows s.0 next.0 small
 
   -- what becomes of a goal where a tick is named that shows the stamp, and where none is named and none shows it
-  module _ {A : Type 0} (some : (t : Tick) → Shows next s t → full_tick s next ≡ full.At t → A)
-      (none : ((t : Tick) → Shows next s t → ⊥) → full_tick s next ≡ full.Nowhere → A) where
+  module _ {A : Type 0} (some : (t : Tick) → Shows next s t → full_tick s next ≡ Some t → A)
+      (none : ((t : Tick) → Shows next s t → ⊥) → full_tick s next ≡ None → A) where
     ahead : d < 2 ^ 31 → (b : Bool) → leb (next.0 + d) largest_tick ≡ b → A
     ahead l true e =
         let h : next.0 + d ≤ largest_tick = leb-true (next.0 + d) largest_tick e in
@@ -108,60 +105,44 @@ module _ (s : Stamp) (next : Tick) (small : s.0 < 2 ^ 32) (d : ℕ) (is : d ≡ 
     by_half true e = ahead (ltb-true d (2 ^ 31) e) (leb (next.0 + d) largest_tick) refl
     by_half false e = below (ltb-false d (2 ^ 31) e) (leb (2 ^ 32 - d) next.0) refl
 
-decide : (s : Stamp) (next : Tick) → s.0 < 2 ^ 32 → {A : Type 0} → ((t : Tick) → Shows next s t → full_tick s next ≡ full.At t → A) →
-    (((t : Tick) → Shows next s t → ⊥) → full_tick s next ≡ full.Nowhere → A) → A
+decide : (s : Stamp) (next : Tick) → s.0 < 2 ^ 32 → {A : Type 0} → ((t : Tick) → Shows next s t → full_tick s next ≡ Some t → A) →
+    (((t : Tick) → Shows next s t → ⊥) → full_tick s next ≡ None → A) → A
 decide s next small some none = let d = less32 s.0 next.0 in by_half s next small d refl some none (ltb d (2 ^ 31)) refl
-
--- ---- answers by their case
-
--- the tick of an answer, another where it names none
-abbrev tick_or : Tick → FullTick → Tick
-tick_or u (At t) = t
-tick_or u Nowhere = u
-tick_or u (Refused why) = u
-
-same_tick : (t u : Tick) → At t ≡ At u → t ≡ u
-same_tick t u e = ap (tick_or t) e
-
-abbrev kind : FullTick → ℕ
-kind (At t) = 0
-kind Nowhere = 1
-kind (Refused why) = 2
 
 -- ---- the answer, where record and table agree
 
 module _ (rec : Record) (ws : List ℕ) (s : Stamp) (small : s.0 < 2 ^ 32) (agreed : agrees rec ws ≡ true) where
-  answer : full_tick_in rec ws s ≡ found_tick (full_tick s rec.next)
-  answer = ap (λ t. cond t (found_tick (full_tick s rec.next)) (Refused Disagreement)) agreed
+  answer : full_tick_in rec ws s ≡ Ok (full_tick s rec.next)
+  answer = ap (λ t. cond t (Ok (full_tick s rec.next)) (Err Disagreement)) agreed
 
-  at_is : (t : Tick) → full_tick s rec.next ≡ full.At t → full_tick_in rec ws s ≡ At t
-  at_is t e = answer ∙ ap found_tick e
+  at_is : (t : Tick) → full_tick s rec.next ≡ Some t → full_tick_in rec ws s ≡ Ok (Some t)
+  at_is t e = answer ∙ ap Ok e
 
-  nowhere_is : full_tick s rec.next ≡ full.Nowhere → full_tick_in rec ws s ≡ Nowhere
-  nowhere_is e = answer ∙ ap found_tick e
+  nowhere_is : full_tick s rec.next ≡ None → full_tick_in rec ws s ≡ Ok None
+  nowhere_is e = answer ∙ ap Ok e
 
-  named_only : (t : Tick) → full_tick_in rec ws s ≡ At t → Shows rec.next s t
+  named_only : (t : Tick) → full_tick_in rec ws s ≡ Ok (Some t) → Shows rec.next s t
   named_only t e =
       decide s rec.next small
-      (λ u p f. subst (Shows rec.next s) (same_tick u t (sym (at_is u f) ∙ e)) p)
-      (λ k f. let z : ◌≡◌ {A = ℕ} 1 0 = ap kind (sym (nowhere_is f) ∙ e) in let w : ⊥ = omega arith in absurd w)
+      (λ u p f. let h = at_is u f in let same : u ≡ t = cc in subst (Shows rec.next s) same p)
+      (λ k f. let h = nowhere_is f in cc)
 
-  named_if : (t : Tick) → Shows rec.next s t → full_tick_in rec ws s ≡ At t
+  named_if : (t : Tick) → Shows rec.next s t → full_tick_in rec ws s ≡ Ok (Some t)
   named_if t p =
       decide s rec.next small
-      (λ u q f. at_is u f ∙ ap At (one_shows rec.next s u t q p))
+      (λ u q f. at_is u f ∙ ap (λ (x : Tick). Ok (Some x)) (one_shows rec.next s u t q p))
       (λ k f. absurd (k t p))
 
-  nowhere_only : full_tick_in rec ws s ≡ Nowhere → (t : Tick) → Shows rec.next s t → ⊥
-  nowhere_only e t p = let z : ◌≡◌ {A = ℕ} 1 0 = ap kind (sym e ∙ named_if t p) in omega arith
+  nowhere_only : full_tick_in rec ws s ≡ Ok None → (t : Tick) → Shows rec.next s t → ⊥
+  nowhere_only e t p = let h = named_if t p in cc
 
-  nowhere_if : ((t : Tick) → Shows rec.next s t → ⊥) → full_tick_in rec ws s ≡ Nowhere
+  nowhere_if : ((t : Tick) → Shows rec.next s t → ⊥) → full_tick_in rec ws s ≡ Ok None
   nowhere_if k =
       decide s rec.next small
       (λ t p f. absurd (k t p))
       (λ l f. nowhere_is f)
 
-  stands_alike : (t : Tick) → full_tick_in rec ws s ≡ At t → tick_standing (record { 0 = t.0 }) rec.next ≡ stamp_standing s rec.next
+  stands_alike : (t : Tick) → full_tick_in rec ws s ≡ Ok (Some t) → tick_standing (record { 0 = t.0 }) rec.next ≡ stamp_standing s rec.next
   stands_alike t e =
       let p = named_only t e in
       sym (stamp_tells (record { 0 = t.0 }) rec.next p.ahead p.behind) ∙
@@ -170,21 +151,15 @@ module _ (rec : Record) (ws : List ℕ) (s : Stamp) (small : s.0 < 2 ^ 32) (agre
 -- ---- refused
 
 module _ (rec : Record) (ws : List ℕ) (s : Stamp) (why : Refusal) where
-  abbrev why_or : FullTick → Refusal
-  why_or (At t) = why
-  why_or Nowhere = why
-  why_or (Refused other) = other
-
-  refused_only : full_tick_in rec ws s ≡ Refused why → (agrees rec ws ≡ false) × (why ≡ Disagreement)
+  refused_only : full_tick_in rec ws s ≡ Err why → (agrees rec ws ≡ false) × (why ≡ Disagreement)
   refused_only = go (agrees rec ws) (full_tick s rec.next)
     where
-      go : (b : Bool) (x : Full) → cond b (found_tick x) (Refused Disagreement) ≡ Refused why → (b ≡ false) × (why ≡ Disagreement)
-      go true (full.At t) e = let z : ◌≡◌ {A = ℕ} 0 2 = ap kind e in let w : ⊥ = omega arith in absurd w
-      go true full.Nowhere e = let z : ◌≡◌ {A = ℕ} 1 2 = ap kind e in let w : ⊥ = omega arith in absurd w
-      go false x e = (refl, sym (ap why_or e))
+      go : (b : Bool) (x : Option Tick) → cond b (Ok x) (Err Disagreement) ≡ Err why → (b ≡ false) × (why ≡ Disagreement)
+      go true x e = cc
+      go false x e = (refl, cc)
 
-  refused_if : (agrees rec ws ≡ false) × (why ≡ Disagreement) → full_tick_in rec ws s ≡ Refused why
-  refused_if (a, e) = ap (λ t. cond t (found_tick (full_tick s rec.next)) (Refused Disagreement)) a ∙ ap Refused (sym e)
+  refused_if : (agrees rec ws ≡ false) × (why ≡ Disagreement) → full_tick_in rec ws s ≡ Err why
+  refused_if (a, e) = ap (λ t. cond t (Ok (full_tick s rec.next)) (Err Disagreement)) a ∙ ap Err (sym e)
 
 pub full_tick_right : FullTickRight
 unfolding less32 open_outcome changed_by words_by agrees every runs_of references_of runs_shaped zeros last_end

@@ -8,8 +8,8 @@ use lib.Dec.{eqb, ltb}
 use Rattle.units.specs.declared.WideTick.{WideTick}
 use Rattle.units.specs.Limits.{largest_span}
 use Rattle.agreement.specs.Agreement.{agrees}
-use Rattle.keeping.specs.declared.Outcome.TheVariants.{Accepted}
-use Rattle.keeping.specs.Keeping.{outcome_number}
+use Rattle.std.specs.Prelude.{Ok}
+use Rattle.agreement.specs.Numbers.{answer_number}
 use Rattle.keeping.proofs.Outcomes.{number_accepted}
 use Rattle.timeline.proofs.Kept.{or_none}
 use Rattle.frames.specs.declared.SFields.{SFields}
@@ -50,10 +50,10 @@ module _ (x : State) (s : SFields) (agreed : agrees x.rec x.words ≡ true) (nar
   not_above : negative s ≡ false → {A : Type 0} → first_negative ≤ s.r → A
   not_above e l = absurd (true≢false (sym (le-leb first_negative s.r l) ∙ e))
 
-  pub s_only : lowest (appended_rows x s) ≡ 0 → StandsFor x s (call_of x s) × (outcome_of x (call_of x s) ≡ Accepted)
+  pub s_only : lowest (appended_rows x s) ≡ 0 → StandsFor x s (call_of x s) × (outcome_of x (call_of x s) ≡ Ok tt)
   s_only zero = go (negative s) refl
     where
-      go : (b : Bool) → negative s ≡ b → StandsFor x s (call_of x s) × (outcome_of x (call_of x s) ≡ Accepted)
+      go : (b : Bool) → negative s ≡ b → StandsFor x s (call_of x s) × (outcome_of x (call_of x s) ≡ Ok tt)
       go false e = (
         (count_of x s, record { more = λ l. ap count_by e; known = not_above e; least = not_above e }, refl),
         number_accepted (outcome_of x (call_of x s))
@@ -77,11 +77,11 @@ module _ (x : State) (s : SFields) (agreed : agrees x.rec x.words ≡ true) (nar
             r.taken,
           )
 
-  pub s_if : (c : Call) → StandsFor x s c → outcome_of x c ≡ Accepted → (c ≡ call_of x s) × (lowest (appended_rows x s) ≡ 0)
+  pub s_if : (c : Call) → StandsFor x s c → outcome_of x c ≡ Ok tt → (c ≡ call_of x s) × (lowest (appended_rows x s) ≡ 0)
   s_if c (n, g, e) o = (e ∙ ap (by_tick start s.d) (count (negative s) refl), rows (negative s) refl)
     where
-      taken : outcome_of x (by_tick start s.d n) ≡ Accepted
-      taken = subst (λ d. outcome_of x d ≡ Accepted) e o
+      taken : outcome_of x (by_tick start s.d n) ≡ Ok tt
+      taken = subst (λ d. outcome_of x d ≡ Ok tt) e o
 
       lasts : 1 ≤ s.d
       lasts =
@@ -93,12 +93,12 @@ module _ (x : State) (s : SFields) (agreed : agrees x.rec x.words ≡ true) (nar
       count true b =
           least_is x.rec.head x.rec.next.0 s.d lasts n (g.least (leb-true first_negative s.r b)) ∙ sym (ap count_by b)
 
-      counted : outcome_of x (call_of x s) ≡ Accepted
-      counted = subst (λ (m : ℕ). outcome_of x (by_tick start s.d m) ≡ Accepted) (count (negative s) refl) taken
+      counted : outcome_of x (call_of x s) ≡ Ok tt
+      counted = subst (λ (m : ℕ). outcome_of x (by_tick start s.d m) ≡ Ok tt) (count (negative s) refl) taken
 
       rows : (b : Bool) → negative s ≡ b → lowest (appended_rows x s) ≡ 0
       rows false b =
-          ap (λ t. rows_by t (count_of x s)) b ∙ sym (append x.rec x.words s.d (count_of x s) narrow start) ∙ ap outcome_number counted
+          ap (λ t. rows_by t (count_of x s)) b ∙ sym (append x.rec x.words s.d (count_of x s) narrow start) ∙ ap answer_number counted
       rows true b =
           ap (λ t. rows_by t (count_of x s)) b ∙
           reach_if x start s.d (count_of x s) agreed narrow counted

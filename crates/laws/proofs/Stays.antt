@@ -10,7 +10,7 @@ use Rattle.window.specs.Window.{window_at, end_of, tick_needed}
 use Rattle.window.proofs.Ranges.{range_first, range_last}
 use Rattle.window.proofs.Spending.{tick_needs}
 use Rattle.agreement.specs.Agreement.{agrees}
-use Rattle.keeping.specs.declared.Outcome.TheVariants as outcome
+use Rattle.std.specs.Prelude.{Ok}
 use Rattle.timeline.specs.Trimming.{trim_outcome}
 use Rattle.timeline.proofs.Kept.{trim_passed}
 use Rattle.answers.specs.Cover.{covers, covered_by}
@@ -55,7 +55,7 @@ module _ (s : State) (c : WideMillis) where
     pub leaves : agrees (trim_leaves s c).rec (trim_leaves s c).words ≡ true
     pub stays : Picked (StillNeeded s.rec.head (max s.rec.clock.0 c.0)) (kept_by s) (kept_by (trim_leaves s c))
 
-  pub accepts : trim_outcome s.rec s.words c ≡ outcome.Accepted → Accepts
+  pub accepts : trim_outcome s.rec s.words c ≡ Ok tt → Accepts
   accepts o =
       let k = subst (λ x. Keeps s x (max s.rec.clock.0 c.0) (kept_by s)) (trim_done s c o) (only_spent.trim s c o) in
       record { agreed = (trim_passed s.rec s.words c o).0; leaves = k.settled.agreed; stays = k.exactly }

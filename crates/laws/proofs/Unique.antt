@@ -3,7 +3,7 @@
 use mathlib.Core.Path.{◌≡◌, sym, ap, ap₂, ◌∙◌}
 use Prim.Native.Nat.{ℕ}
 use Rattle.window.proofs.Unique.{one_passed, one_needed, one_least}
-use Rattle.laws.specs.Unique.{Entry, Lending, Entries, Inner}
+use Rattle.laws.specs.Unique.{Entry, Lending, Entries, AnyAnswer, Inner}
 
 -- ---- what equals the same is equal
 
@@ -55,26 +55,20 @@ entries =
       verdict_whole_lem = equation;
       percent = equation;
       verdict_percent_lem = equation;
-      percent_number_lem = equation;
       availability = equation;
       available_at = equation;
       full_tick_lem = equation;
       touching_words_lem = equation;
       covered_edge_lem = equation;
-      verdict_number_lem = equation;
-      availability_number_lem = equation;
-      available_number_lem = equation;
-      full_tick_number_lem = equation;
-      touching_number_lem = equation;
-      edge_number_lem = equation;
       touching_any = λ κs a. tt;
       touching = λ κs a x y e f p q. same p q;
       read = lending (λ κs a e f. same);
       write = lending (λ κs a e f. same);
-      write_number_lem = equation;
       line_end = equation;
       line_none = equation;
       line_len = equation;
+      line_first_any = λ κs a. tt;
+      line_first = λ κs a x y e f p q. same p q;
       line_more = equation;
       line_too_long = equation;
       begins = equation;
@@ -101,11 +95,28 @@ entries =
       c_covered_edge = lending (λ κs a e f. same);
       c_read = lending (λ κs a e f. three);
       c_write = lending (λ κs a e f. two);
-      wrong_record_lem = equation;
-      wrong_length_lem = equation;
-      outcome_number_lem = equation;
-      outcome_distance_lem = equation;
+      store_record = lending (λ κs a e f. same);
       accepted = equation;
+      record_in_lem = equation;
+      record_beside_lem = equation;
+      words_of_verdict_lem = equation;
+      words_of_availability_lem = equation;
+      words_of_available_lem = equation;
+      words_of_tick_lem = equation;
+      words_of_touching_lem = equation;
+      words_of_edge_lem = equation;
+      words_of_length_lem = equation;
+      tick_of = equation;
+      tick_number = equation;
+      millis_of = equation;
+      millis_number = equation;
+      timescale_of = equation;
+      timescale_number = equation;
+      span_of = equation;
+      span_number = equation;
+      number_of = equation;
+      number_number = equation;
+      run_held_lem = equation;
       refused = equation;
       agrees = equation;
       record_held_lem = equation;
@@ -139,30 +150,24 @@ entries =
       tick_against = equation;
     }
 
+pub any_answer : AnyAnswer
+any_answer =
+    record {
+      any_number = λ A L κs a x y e f p q. same p q;
+      any_distance = λ A L κs a x y e f p q. same p q;
+      any_told = λ W n T LW F LT CW CT KW m G o KT r κs a x y e f p q. same p.0 q.0;
+      any_told_words = λ W n T LW F LT CW CT KW m G o KT r κs a x y e f p q. same p.1 q.1;
+    }
+
 pub inner : Inner
 inner =
     record {
-      record_of = λ κs a x y e f p q. same p q;
       give_back = λ κs a x y e f p q. same p.0 q.0;
       give_back_words = λ κs a x y e f p q. same p.1 q.1;
       give_appended = λ κs a x y e f p q. same p.0 q.0;
       give_appended_words = λ κs a x y e f p q. two p.1 q.1;
       give_read = λ κs a x y e f p q. same p.0 q.0;
       give_read_words = λ κs a x y e f p q. two p.1 q.1;
-      tell_verdict = λ κs a x y e f p q. same p.0 q.0;
-      tell_verdict_words = λ κs a x y e f p q. same p.1 q.1;
-      tell_edge = λ κs a x y e f p q. same p.0 q.0;
-      tell_edge_words = λ κs a x y e f p q. same p.1 q.1;
-      tell_availability = λ κs a x y e f p q. same p.0 q.0;
-      tell_availability_words = λ κs a x y e f p q. same p.1 q.1;
-      tell_available = λ κs a x y e f p q. same p.0 q.0;
-      tell_available_words = λ κs a x y e f p q. same p.1 q.1;
-      tell_full_tick = λ κs a x y e f p q. same p.0 q.0;
-      tell_full_tick_words = λ κs a x y e f p q. same p.1 q.1;
-      tell_touching = λ κs a x y e f p q. same p.0 q.0;
-      tell_touching_words = λ κs a x y e f p q. same p.1 q.1;
-      tell_written = λ κs a x y e f p q. same p.0 q.0;
-      tell_written_words = λ κs a x y e f p q. same p.1 q.1;
       append_joined = λ κs a x y e f p q. same p.0 q.0;
       append_joined_words = λ κs a x y e f p q. same p.1 q.1;
       count_passed_lem = λ κs a x y e f p q. same p q;
@@ -170,12 +175,16 @@ inner =
       write_line_words = λ κs a x y e f p q. same p.bytes q.bytes;
       number = λ κs a x y e f p q. same p q;
       before_end_lem = λ κs a x y e f p q. same p q;
-      passed_ends = λ κs a x y e f p q. one_passed a.0 a.1.0.0 x y p q;
+      passed_ends = λ κs a x y e f p q. one_passed a.0.head a.1.0.0 x y p q;
       needed_at = λ κs a x y e f p q. one_needed _ _ x y p q;
       needed_whole = λ κs a x y e f p q. one_needed _ _ x y p q;
       least_count_lem = λ κs a x y e f p q. one_least _ _ _ x y p q;
+      walk = λ κs a x y e f p q. same p q;
       run_at = λ κs a x y e f p q. same p q;
-      passed_in = λ κs a x y e f p q. same p q;
+      run_end_lem = λ κs a x y e f p q. ap (λ (n : ℕ). record { 0 = n }) (same p q);
+      run_joins = λ κs a x y e f p q. same p q;
+      run_reference = λ κs a x y e f p q. same p q;
+      passed_by = λ κs a x y e f p q. same p q;
       passed_upto_lem = λ κs a x y e f p q. same p q;
       needs_run_lem = λ κs a x y e f p q. same p q;
       drop_front = λ κs a x y e f p q. same p.0 q.0;

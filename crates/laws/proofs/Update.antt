@@ -11,7 +11,7 @@ use lib.IntN.{pos}
 use Rattle.units.specs.Exactly.{ExactlyWhen}
 use Rattle.window.specs.declared.Head.{Head}
 use Rattle.window.specs.declared.Reference.{Reference}
-use Rattle.window.specs.declared.Needed.TheVariants as needed
+use Rattle.std.specs.Prelude.{Ok, Some}
 use Rattle.window.specs.Place.{place, moment, period_end, cut_to_end, before_end}
 use Rattle.window.specs.Window.{low_edge, high_edge, window_at, end_of, passed, Spent}
 use Rattle.window.proofs.Unsigned.{low_n, low_is}
@@ -111,7 +111,7 @@ unfolding agrees runs_of words_of repeated references_of runs_shaped zeros last_
 worked = record { five = refl; agreed = refl; none = refl; one = refl; two = refl }
 
 -- a verdict at a clock under U's head, where the window needs the ticks from a up to b
-u_verdict : (c : ℕ) (v : Verdict) → verdict_at state_u.rec state_u.words (millis c) ≡ v → verdict_at five_u.rec five_u.words (millis c) ≡ v
+u_verdict : (c : ℕ) (v : Verdict) → verdict_at state_u.rec state_u.words (millis c) ≡ Ok v → verdict_at five_u.rec five_u.words (millis c) ≡ Ok v
 u_verdict c v e = ap (λ s. verdict_at s.rec s.words (millis c)) worked.five ∙ e
 
 pub update_right : UpdateRight
@@ -124,27 +124,27 @@ update_right =
       later_open = later_open;
       u_0 =
           u_verdict 0 (Complete 2000)
-          (by_clock state_u.rec state_u.words worked.agreed one_run (millis 0) refl refl (needed.Ticks (wide 0) (wide 2000)) (Complete 2000)
+          (by_clock state_u.rec state_u.words worked.agreed one_run (millis 0) refl refl (Some (record { first = wide 0; end = wide 2000 })) (Complete 2000)
           (window_ticks head_u 0 (lit< tt))
           (all_covered 0 2000 0 20_000 (lit< tt) 0 2000 refl refl refl));
       u_14000 =
           u_verdict 14_000 (Complete 12_000)
-          (by_clock state_u.rec state_u.words worked.agreed one_run (millis 14_000) refl refl (needed.Ticks (wide 4000) (wide 16_000)) (Complete 12_000)
+          (by_clock state_u.rec state_u.words worked.agreed one_run (millis 14_000) refl refl (Some (record { first = wide 4000; end = wide 16_000 })) (Complete 12_000)
           (window_ticks head_u 14_000 (lit< tt))
           (all_covered 4000 16_000 0 20_000 (lit< tt) 4000 16_000 refl refl refl));
       u_18000 =
           u_verdict 18_000 (Complete 12_000)
-          (by_clock state_u.rec state_u.words worked.agreed one_run (millis 18_000) refl refl (needed.Ticks (wide 8000) (wide 20_000)) (Complete 12_000)
+          (by_clock state_u.rec state_u.words worked.agreed one_run (millis 18_000) refl refl (Some (record { first = wide 8000; end = wide 20_000 })) (Complete 12_000)
           (window_ticks head_u 18_000 (lit< tt))
           (all_covered 8000 20_000 0 20_000 (lit< tt) 8000 20_000 refl refl refl));
       u_18001 =
           u_verdict 18_001 (Lacking 12_000 11_999 (wide 20_000))
-          (by_clock state_u.rec state_u.words worked.agreed one_run (millis 18_001) refl refl (needed.Ticks (wide 8001) (wide 20_001)) (Lacking 12_000 11_999 (wide 20_000))
+          (by_clock state_u.rec state_u.words worked.agreed one_run (millis 18_001) refl refl (Some (record { first = wide 8001; end = wide 20_001 })) (Lacking 12_000 11_999 (wide 20_000))
           (window_ticks head_u 18_001 (lit< tt))
           (end_lacking 8001 20_001 0 20_000 (lit< tt) 8001 20_000 refl refl (eqb-false 11_999 12_000 refl) (lit< tt) (lit≤ tt)));
       u_edge =
           ap (λ s. covered_edge s.rec s.words) worked.five ∙ asked state_u.rec state_u.words worked.agreed ∙
-          at_clock_lem head_u 20_000 18_000 refl (lit≤ tt) (lit≤ tt) (lit< tt);
+          ap Ok (at_clock_lem head_u 20_000 18_000 refl (lit≤ tt) (lit≤ tt) (lit< tt));
       u_none = ap (λ s. trimming s 13_999) worked.five ∙ worked.none;
       u_one = ap (λ s. trimming s 14_000) worked.five ∙ worked.one;
       u_two = ap (λ s. trimming s 18_000) worked.five ∙ worked.two;

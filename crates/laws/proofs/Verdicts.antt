@@ -20,9 +20,8 @@ use Rattle.agreement.specs.declared.refusal.Refusal.{Refusal}
 use Rattle.agreement.specs.declared.refusal.Refusal.TheVariants.{Disagreement, ClockLimit, EarlierClock, EndUnknown}
 use Rattle.agreement.specs.Agreement.{kept}
 use Rattle.answers.specs.declared.Verdict.{Verdict}
-use Rattle.answers.specs.declared.Verdict.TheVariants.{Nothing, Complete, Lacking, Refused}
-use Rattle.answers.specs.declared.Percent.{Percent}
-use Rattle.answers.specs.declared.Percent.TheVariants.{Of, Undefined}
+use Rattle.answers.specs.declared.Verdict.TheVariants.{Nothing, Complete, Lacking}
+use Rattle.std.specs.Prelude.{Err, Ok, None, Option, Result, Some}
 use Rattle.answers.specs.Cover.{covered_by}
 use Rattle.answers.specs.Counts.{beyond, needed_count, covered_count, lowest_lacking}
 use Rattle.answers.specs.Judgement.{judged, verdict_of, verdict_at, verdict_whole, complete}
@@ -55,7 +54,6 @@ module _ (n c l : ℕ) where
       count_of Nothing = 0
       count_of (Complete x) = x
       count_of (Lacking x y k) = 0
-      count_of (Refused r) = 0
 
   lacking_only : (m d : ℕ) (k : WideTick) → judged n c l ≡ Lacking m d k → (n ≡ m) × (c ≡ d)
   lacking_only m d k =
@@ -67,19 +65,11 @@ module _ (n c l : ℕ) where
       count_of Nothing = 0
       count_of (Complete x) = 0
       count_of (Lacking x y j) = x
-      count_of (Refused r) = 0
 
       cover_of : Verdict → ℕ
       cover_of Nothing = 0
       cover_of (Complete x) = 0
       cover_of (Lacking x y j) = y
-      cover_of (Refused r) = 0
-
-  refused_never : (why : Refusal) → judged n c l ≡ Refused why → ⊥
-  refused_never why =
-      by_count n c l (λ v. v ≡ Refused why → ⊥) (λ e q. let z : ◌≡◌ {A = ℕ} 0 1 = cc in omega arith)
-      (λ s e q. let z : ◌≡◌ {A = ℕ} 0 1 = cc in omega arith)
-      (λ s o q. let z : ◌≡◌ {A = ℕ} 0 1 = cc in omega arith)
 
 -- ---- the verdict of a window
 
@@ -107,7 +97,7 @@ module _ (h : Head) (w : Stretch) (rs : List Reference) where
       only : verdict_of h w rs ≡ Complete n → Completes h w rs n
       only e =
           let s = complete_only (needed_count h w) (covered_count h w rs) (lowest_lacking h w rs) n e in
-          record { needed = subst (Many (tick_needed h w)) s.2 count_needed; whole = (complete_exactly h w rs).only (ap complete e) }
+          record { needed = subst (Many (tick_needed h w)) s.2 count_needed; whole = (complete_exactly h w rs).only (ap (λ v. complete (Ok v)) e) }
 
       if : Completes h w rs n → verdict_of h w rs ≡ Complete n
       if q =
@@ -166,161 +156,156 @@ module _ (h : Head) (w : Stretch) (rs : List Reference) where
 
 -- ---- asked at a clock, or of the whole period
 
-is_refused : Verdict → Bool
-is_refused Nothing = false
-is_refused (Complete n) = false
-is_refused (Lacking n m k) = false
-is_refused (Refused r) = true
-
-same_refusal : (r s : Refusal) → Refused r ≡ Refused s → r ≡ s
+same_refusal : (r s : Refusal) → ◌≡◌ {A = Result Verdict Refusal} (Err r) (Err s) → r ≡ s
 same_refusal r s e = cc
 
-refused_no : {A : Type 0} (t : Verdict) → is_refused t ≡ false → (why : Refusal) → Refused why ≡ t → A
-unfolding is_refused
-refused_no t o why e = absurd (true≢false (ap is_refused e ∙ o))
+refused_no : {A : Type 0} (t : Verdict) (why : Refusal) → ◌≡◌ {A = Result Verdict Refusal} (Err why) (Ok t) → A
+refused_no t why e = let z : ◌≡◌ {A = ℕ} 0 1 = cc in absurd (let y : ⊥ = omega arith in y)
+
+given_no : {A : Type 0} (v : Verdict) (why : Refusal) → ◌≡◌ {A = Result Verdict Refusal} (Ok v) (Err why) → A
+given_no v why e = let z : ◌≡◌ {A = ℕ} 0 1 = cc in absurd (let y : ⊥ = omega arith in y)
 
 module _ (rec : Record) (ws : List ℕ) where
   of_window : Stretch → Verdict
   of_window w = verdict_of rec.head w (kept rec ws)
 
-  never_refused : (w : Stretch) (why : Refusal) → of_window w ≡ Refused why → ⊥
-  unfolding of_window
-  never_refused w =
-      refused_never (needed_count rec.head w) (covered_count rec.head w (kept rec ws)) (lowest_lacking rec.head w (kept rec ws))
-
   module _ (c : WideMillis) where
-    asked_only : (t : Verdict) → is_refused t ≡ false → verdict_at rec ws c ≡ t → MayAsk rec ws c × (of_window (at_clock rec c) ≡ t)
+    asked_only : (t : Verdict) → verdict_at rec ws c ≡ Ok t → MayAsk rec ws c × (of_window (at_clock rec c) ≡ t)
     unfolding of_window
-    asked_only t o =
-        by_asked_at rec ws c (λ v. v ≡ t → MayAsk rec ws c × (of_window (at_clock rec c) ≡ t)) (λ a. refused_no t o Disagreement)
-        (λ a m. refused_no t o ClockLimit)
-        (λ a m l. refused_no t o EarlierClock)
-        (λ a m l q. (record { agreed = a; limit = leb-true c.0 largest_millis m; later = leb-true rec.clock.0 c.0 l }, q))
+    asked_only t =
+        by_asked_at rec ws c (λ v. v ≡ Ok t → MayAsk rec ws c × (of_window (at_clock rec c) ≡ t)) (λ a. refused_no t Disagreement)
+        (λ a m. refused_no t ClockLimit)
+        (λ a m l. refused_no t EarlierClock)
+        (λ a m l q.
+        let same : verdict_of rec.head (at_clock rec c) (kept rec ws) ≡ t = cc in
+        (record { agreed = a; limit = leb-true c.0 largest_millis m; later = leb-true rec.clock.0 c.0 l }, same))
 
-    asked_if : MayAsk rec ws c → verdict_at rec ws c ≡ of_window (at_clock rec c)
+    asked_if : MayAsk rec ws c → verdict_at rec ws c ≡ Ok (of_window (at_clock rec c))
     unfolding of_window
     asked_if a = asked_at rec ws c a.agreed (le-leb c.0 largest_millis a.limit) (le-leb rec.clock.0 c.0 a.later)
 
-    pub complete_at : (n : ℕ) → ExactlyWhen (verdict_at rec ws c ≡ Complete n) (MayAsk rec ws c × Completes rec.head (at_clock rec c) (kept rec ws) n)
-    unfolding of_window is_refused
+    pub complete_at : (n : ℕ) → ExactlyWhen (verdict_at rec ws c ≡ Ok (Complete n)) (MayAsk rec ws c × Completes rec.head (at_clock rec c) (kept rec ws) n)
+    unfolding of_window
     complete_at n =
         let here = completes rec.head (at_clock rec c) (kept rec ws) n in
-        record { only = λ e. let a = asked_only (Complete n) refl e in (a.0, here.only a.1); if = λ p. asked_if p.0 ∙ here.if p.1 }
+        record { only = λ e. let a = asked_only (Complete n) e in (a.0, here.only a.1); if = λ p. asked_if p.0 ∙ ap Ok (here.if p.1) }
 
-    pub lacking_at : (n m : ℕ) (k : WideTick) → ExactlyWhen (verdict_at rec ws c ≡ Lacking n m k) (MayAsk rec ws c × Lacks rec.head (at_clock rec c) (kept rec ws) n m k.0)
-    unfolding of_window is_refused
+    pub lacking_at : (n m : ℕ) (k : WideTick) → ExactlyWhen (verdict_at rec ws c ≡ Ok (Lacking n m k)) (MayAsk rec ws c × Lacks rec.head (at_clock rec c) (kept rec ws) n m k.0)
+    unfolding of_window
     lacking_at n m k =
         let here = lacks rec.head (at_clock rec c) (kept rec ws) n m k in
-        record { only = λ e. let a = asked_only (Lacking n m k) refl e in (a.0, here.only a.1); if = λ p. asked_if p.0 ∙ here.if p.1 }
+        record { only = λ e. let a = asked_only (Lacking n m k) e in (a.0, here.only a.1); if = λ p. asked_if p.0 ∙ ap Ok (here.if p.1) }
 
-    pub nothing_at : ExactlyWhen (verdict_at rec ws c ≡ Nothing) (MayAsk rec ws c × NeedsNone rec.head (at_clock rec c))
-    unfolding of_window is_refused
+    pub nothing_at : ExactlyWhen (verdict_at rec ws c ≡ Ok Nothing) (MayAsk rec ws c × NeedsNone rec.head (at_clock rec c))
+    unfolding of_window
     nothing_at =
         let here = needs_none rec.head (at_clock rec c) (kept rec ws) in
-        record { only = λ e. let a = asked_only Nothing refl e in (a.0, here.only a.1); if = λ p. asked_if p.0 ∙ here.if p.1 }
+        record { only = λ e. let a = asked_only Nothing e in (a.0, here.only a.1); if = λ p. asked_if p.0 ∙ ap Ok (here.if p.1) }
 
-    pub refused_at_lem : (why : Refusal) → ExactlyWhen (verdict_at rec ws c ≡ Refused why) (MayNotAsk rec ws c why)
+    pub refused_at_lem : (why : Refusal) → ExactlyWhen (verdict_at rec ws c ≡ Err why) (MayNotAsk rec ws c why)
     unfolding of_window
     refused_at_lem why =
         record {
           only =
-              by_asked_at rec ws c (λ v. v ≡ Refused why → MayNotAsk rec ws c why)
+              by_asked_at rec ws c (λ v. v ≡ Err why → MayNotAsk rec ws c why)
               (λ a q. subst (MayNotAsk rec ws c) (same_refusal Disagreement why q) (disagree a))
               (λ a m q. subst (MayNotAsk rec ws c) (same_refusal ClockLimit why q) (over a (leb-false c.0 largest_millis m)))
               (λ a m l q.
               subst (MayNotAsk rec ws c) (same_refusal EarlierClock why q) (early a (leb-true c.0 largest_millis m) (leb-false rec.clock.0 c.0 l)))
-              (λ a m l q. absurd (never_refused (at_clock rec c) why q));
+              (λ a m l. given_no (of_window (at_clock rec c)) why);
           if = back;
         }
       where
-        back : {x : Refusal} → MayNotAsk rec ws c x → verdict_at rec ws c ≡ Refused x
+        back : {x : Refusal} → MayNotAsk rec ws c x → verdict_at rec ws c ≡ Err x
         back (disagree e) =
             ap
-            (λ s. cond s (cond (clock_held c) (cond (leb rec.clock.0 c.0) (of_window (at_clock rec c)) (Refused EarlierClock)) (Refused ClockLimit)) (Refused Disagreement))
+            (λ s. cond s (cond (clock_held c) (cond (leb rec.clock.0 c.0) (Ok (of_window (at_clock rec c))) (Err EarlierClock)) (Err ClockLimit)) (Err Disagreement))
             e
         back (over e l) =
             ap₂
-            (λ s t. cond s (cond t (cond (leb rec.clock.0 c.0) (of_window (at_clock rec c)) (Refused EarlierClock)) (Refused ClockLimit)) (Refused Disagreement))
+            (λ s t. cond s (cond t (cond (leb rec.clock.0 c.0) (Ok (of_window (at_clock rec c))) (Err EarlierClock)) (Err ClockLimit)) (Err Disagreement))
             e
             (lt-leb c.0 largest_millis l)
         back (early e l m) =
             ap
-            (λ s. cond s (cond (clock_held c) (cond (leb rec.clock.0 c.0) (of_window (at_clock rec c)) (Refused EarlierClock)) (Refused ClockLimit)) (Refused Disagreement))
+            (λ s. cond s (cond (clock_held c) (cond (leb rec.clock.0 c.0) (Ok (of_window (at_clock rec c))) (Err EarlierClock)) (Err ClockLimit)) (Err Disagreement))
             e ∙
-            ap₂ (λ s t. cond s (cond t (of_window (at_clock rec c)) (Refused EarlierClock)) (Refused ClockLimit)) (le-leb c.0 largest_millis l)
+            ap₂ (λ s t. cond s (cond t (Ok (of_window (at_clock rec c))) (Err EarlierClock)) (Err ClockLimit)) (le-leb c.0 largest_millis l)
             (lt-leb rec.clock.0 c.0 m)
 
   -- ---- of the whole period
 
-  whole_only : (t : Verdict) → is_refused t ≡ false → verdict_whole rec ws ≡ t → MayAskWhole rec ws × (of_window (in_whole rec) ≡ t)
+  whole_only : (t : Verdict) → verdict_whole rec ws ≡ Ok t → MayAskWhole rec ws × (of_window (in_whole rec) ≡ t)
   unfolding of_window
-  whole_only t o =
-      by_asked_whole rec ws (λ v. v ≡ t → MayAskWhole rec ws × (of_window (in_whole rec) ≡ t)) (λ a. refused_no t o Disagreement)
-      (λ a k. refused_no t o EndUnknown)
-      (λ a k q. (record { agreed = a; known = some_of rec.head.duration.0 (not-true (eqb rec.head.duration.0 0) k) }, q))
+  whole_only t =
+      by_asked_whole rec ws (λ v. v ≡ Ok t → MayAskWhole rec ws × (of_window (in_whole rec) ≡ t)) (λ a. refused_no t Disagreement)
+      (λ a k. refused_no t EndUnknown)
+      (λ a k q.
+      let same : verdict_of rec.head (in_whole rec) (kept rec ws) ≡ t = cc in
+      (record { agreed = a; known = some_of rec.head.duration.0 (not-true (eqb rec.head.duration.0 0) k) }, same))
 
-  whole_if : MayAskWhole rec ws → verdict_whole rec ws ≡ of_window (in_whole rec)
+  whole_if : MayAskWhole rec ws → verdict_whole rec ws ≡ Ok (of_window (in_whole rec))
   unfolding of_window
   whole_if a = asked_whole rec ws a.agreed (ap not (ne_eqb rec.head.duration.0 0 (apart rec.head.duration.0 a.known)))
 
-  pub complete_whole : (n : ℕ) → ExactlyWhen (verdict_whole rec ws ≡ Complete n) (MayAskWhole rec ws × Completes rec.head (in_whole rec) (kept rec ws) n)
-  unfolding of_window is_refused
+  pub complete_whole : (n : ℕ) → ExactlyWhen (verdict_whole rec ws ≡ Ok (Complete n)) (MayAskWhole rec ws × Completes rec.head (in_whole rec) (kept rec ws) n)
+  unfolding of_window
   complete_whole n =
       let here = completes rec.head (in_whole rec) (kept rec ws) n in
-      record { only = λ e. let a = whole_only (Complete n) refl e in (a.0, here.only a.1); if = λ p. whole_if p.0 ∙ here.if p.1 }
+      record { only = λ e. let a = whole_only (Complete n) e in (a.0, here.only a.1); if = λ p. whole_if p.0 ∙ ap Ok (here.if p.1) }
 
-  pub lacking_whole : (n m : ℕ) (k : WideTick) → ExactlyWhen (verdict_whole rec ws ≡ Lacking n m k) (MayAskWhole rec ws × Lacks rec.head (in_whole rec) (kept rec ws) n m k.0)
-  unfolding of_window is_refused
+  pub lacking_whole : (n m : ℕ) (k : WideTick) → ExactlyWhen (verdict_whole rec ws ≡ Ok (Lacking n m k)) (MayAskWhole rec ws × Lacks rec.head (in_whole rec) (kept rec ws) n m k.0)
+  unfolding of_window
   lacking_whole n m k =
       let here = lacks rec.head (in_whole rec) (kept rec ws) n m k in
-      record { only = λ e. let a = whole_only (Lacking n m k) refl e in (a.0, here.only a.1); if = λ p. whole_if p.0 ∙ here.if p.1 }
+      record { only = λ e. let a = whole_only (Lacking n m k) e in (a.0, here.only a.1); if = λ p. whole_if p.0 ∙ ap Ok (here.if p.1) }
 
-  pub nothing_whole : ExactlyWhen (verdict_whole rec ws ≡ Nothing) (MayAskWhole rec ws × NeedsNone rec.head (in_whole rec))
-  unfolding of_window is_refused
+  pub nothing_whole : ExactlyWhen (verdict_whole rec ws ≡ Ok Nothing) (MayAskWhole rec ws × NeedsNone rec.head (in_whole rec))
+  unfolding of_window
   nothing_whole =
       let here = needs_none rec.head (in_whole rec) (kept rec ws) in
-      record { only = λ e. let a = whole_only Nothing refl e in (a.0, here.only a.1); if = λ p. whole_if p.0 ∙ here.if p.1 }
+      record { only = λ e. let a = whole_only Nothing e in (a.0, here.only a.1); if = λ p. whole_if p.0 ∙ ap Ok (here.if p.1) }
 
-  pub refused_whole : (why : Refusal) → ExactlyWhen (verdict_whole rec ws ≡ Refused why) (MayNotAskWhole rec ws why)
+  pub refused_whole : (why : Refusal) → ExactlyWhen (verdict_whole rec ws ≡ Err why) (MayNotAskWhole rec ws why)
   unfolding of_window
   refused_whole why =
       record {
         only =
-            by_asked_whole rec ws (λ v. v ≡ Refused why → MayNotAskWhole rec ws why)
+            by_asked_whole rec ws (λ v. v ≡ Err why → MayNotAskWhole rec ws why)
             (λ a q. subst (MayNotAskWhole rec ws) (same_refusal Disagreement why q) (disagreeing a))
             (λ a k q.
             subst (MayNotAskWhole rec ws) (same_refusal EndUnknown why q)
             (unknown a (eqb-true rec.head.duration.0 0 (not-false (eqb rec.head.duration.0 0) k))))
-            (λ a k q. absurd (never_refused (in_whole rec) why q));
+            (λ a k. given_no (of_window (in_whole rec)) why);
         if = back;
       }
     where
-      back : {x : Refusal} → MayNotAskWhole rec ws x → verdict_whole rec ws ≡ Refused x
-      back (disagreeing e) = ap (λ s. cond s (cond (end_known rec.head) (of_window (in_whole rec)) (Refused EndUnknown)) (Refused Disagreement)) e
+      back : {x : Refusal} → MayNotAskWhole rec ws x → verdict_whole rec ws ≡ Err x
+      back (disagreeing e) = ap (λ s. cond s (cond (end_known rec.head) (Ok (of_window (in_whole rec))) (Err EndUnknown)) (Err Disagreement)) e
       back (unknown e f) =
-          ap₂ (λ s t. cond s (cond (not t) (of_window (in_whole rec)) (Refused EndUnknown)) (Refused Disagreement)) e (eq-eqb rec.head.duration.0 0 f)
+          ap₂ (λ s t. cond s (cond (not t) (Ok (of_window (in_whole rec))) (Err EndUnknown)) (Err Disagreement)) e (eq-eqb rec.head.duration.0 0 f)
 
 -- ---- 100 percent
 
-is_complete : (v : Verdict) → complete v ≡ true → (n : ℕ) × (v ≡ Complete n)
-is_complete Nothing e = absurd (false≢true e)
-is_complete (Complete n) e = (n, refl)
-is_complete (Lacking n m k) e = absurd (false≢true e)
-is_complete (Refused r) e = absurd (false≢true e)
+is_complete : (v : Result Verdict Refusal) → complete v ≡ true → (n : ℕ) × (v ≡ Ok (Complete n))
+is_complete (Ok Nothing) e = absurd (false≢true e)
+is_complete (Ok (Complete n)) e = (n, refl)
+is_complete (Ok (Lacking n m k)) e = absurd (false≢true e)
+is_complete (Err r) e = absurd (false≢true e)
 
-is_hundred : (p : Percent) → hundred p ≡ true → p ≡ Of 100
-is_hundred (Of n) e = ap Of (eqb-true n 100 e)
-is_hundred Undefined e = absurd (false≢true e)
+is_hundred : (p : Option ℕ) → hundred p ≡ true → p ≡ Some 100
+is_hundred (Some n) e = ap Some (eqb-true n 100 e)
+is_hundred None e = absurd (false≢true e)
 
-hundred_by : (v : Verdict) → hundred (verdict_percent v) ≡ complete v → ExactlyWhen (verdict_percent v ≡ Of 100) ((n : ℕ) × (v ≡ Complete n))
+hundred_by : (v : Result Verdict Refusal) → hundred (verdict_percent v) ≡ complete v → ExactlyWhen (verdict_percent v ≡ Some 100) ((n : ℕ) × (v ≡ Ok (Complete n)))
 hundred_by v e =
     record {
       only = λ p. is_complete v (sym e ∙ ap hundred p);
       if = λ q. is_hundred (verdict_percent v) (e ∙ ap complete q.1);
     }
 
-pub hundred_at : (rec : Record) (ws : List ℕ) (c : WideMillis) → ExactlyWhen (verdict_percent (verdict_at rec ws c) ≡ Of 100) ((n : ℕ) × (verdict_at rec ws c ≡ Complete n))
+pub hundred_at : (rec : Record) (ws : List ℕ) (c : WideMillis) → ExactlyWhen (verdict_percent (verdict_at rec ws c) ≡ Some 100) ((n : ℕ) × (verdict_at rec ws c ≡ Ok (Complete n)))
 hundred_at rec ws c = hundred_by (verdict_at rec ws c) (percent_at rec ws c)
 
-pub hundred_whole : (rec : Record) (ws : List ℕ) → ExactlyWhen (verdict_percent (verdict_whole rec ws) ≡ Of 100) ((n : ℕ) × (verdict_whole rec ws ≡ Complete n))
+pub hundred_whole : (rec : Record) (ws : List ℕ) → ExactlyWhen (verdict_percent (verdict_whole rec ws) ≡ Some 100) ((n : ℕ) × (verdict_whole rec ws ≡ Ok (Complete n)))
 hundred_whole rec ws = hundred_by (verdict_whole rec ws) (percent_whole rec ws)

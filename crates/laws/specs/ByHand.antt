@@ -1,6 +1,6 @@
 -- The cases that the paper works by hand, as one table of equations over the very definitions that the contracts cite: from an
 -- opening, call by call, with the record and the table that each leaves. Paper: By hand; Errors we expect someone to make.
-use Rattle.std.specs.Prelude.{ℕ, ◌≤◌, ◌<◌, ◌≡◌, List, [], ◌∷◌, ◌++◌, pos, length, drop, replicate}
+use Rattle.std.specs.Prelude.{Err, Ok, Some, ℕ, ◌≤◌, ◌<◌, ◌≡◌, List, [], ◌∷◌, ◌++◌, pos, length, drop, replicate}
 use Rattle.units.specs.declared.Distance.{Distance}
 use Rattle.units.specs.declared.Grain.{Grain}
 use Rattle.units.specs.declared.WideMillis.{WideMillis}
@@ -11,24 +11,20 @@ use Rattle.units.specs.declared.WideTick.{WideTick}
 use Rattle.units.specs.declared.standing.Standing.TheVariants.{Joins, Gap, Overlap}
 use Rattle.units.specs.Standing.{stamp_standing}
 use Rattle.window.specs.declared.Head.{Head}
-use Rattle.window.specs.declared.Needed.TheVariants.{Ticks}
 use Rattle.window.specs.Window.{whole_period}
 use Rattle.window.specs.Ticks.{NeededTicks}
 use Rattle.agreement.specs.declared.refusal.Refusal.TheVariants as refusal
-use Rattle.keeping.specs.declared.Outcome.{Outcome}
-use Rattle.keeping.specs.declared.Outcome.TheVariants.{Accepted, Refused}
-use Rattle.keeping.specs.Keeping.{outcome_number}
+use Rattle.keeping.specs.Keeping.{Outcome}
+use Rattle.agreement.specs.Numbers.{answer_number}
 use Rattle.timeline.specs.Opening.{open_answer}
 use Rattle.answers.specs.declared.Verdict.TheVariants.{Nothing, Complete, Lacking}
-use Rattle.answers.specs.declared.Percent.TheVariants.{Of}
 use Rattle.answers.specs.Judgement.{verdict_at, verdict_whole}
 use Rattle.answers.specs.Shares.{verdict_percent}
 use Rattle.lookups.specs.declared.Availability.TheVariants.{Ends, NeverEnds}
 use Rattle.lookups.specs.Available.{availability_in}
 use Rattle.hexdigits.specs.Ascii.{ascii}
 use Rattle.file.specs.Judging.{read_answer, read_table}
-use Rattle.writing.specs.declared.WriteAnswer.TheVariants.{Written}
-use Rattle.writing.specs.Writing.{write_answer, write_number}
+use Rattle.writing.specs.Writing.{write_answer}
 use Rattle.words.specs.Words.{head_with}
 use Rattle.laws.specs.Calls.{State, opening, by_tick, by_stamp, trim_at, after, outcome_of}
 use Rattle.laws.specs.Demand2.{output}
@@ -58,10 +54,10 @@ apart n = record { 0 = n }
 
 -- 4 and 5, with their distances
 abbrev pub gap_by : ℕ → Outcome
-gap_by n = Refused (refusal.Gap (apart n))
+gap_by n = Err (refusal.Gap (apart n))
 
 abbrev pub overlap_by : ℕ → Outcome
-overlap_by n = Refused (refusal.Overlap (apart n))
+overlap_by n = Err (refusal.Overlap (apart n))
 
 -- ---- calls
 
@@ -172,44 +168,44 @@ file_d =
 
 pub record ByHand : Type 0 where
   -- A: both appends are accepted, and the next tick is 161; a start of 170 is refusal 4, by 9 ticks
-  pub a_open : (open_answer head_a (tick 111)).outcome ≡ Accepted
-  pub a_first : append_of open_a 111 40 1 ≡ Accepted
-  pub a_second : append_of first_a 151 10 1 ≡ Accepted
+  pub a_open : (open_answer head_a (tick 111)).outcome ≡ Ok tt
+  pub a_first : append_of open_a 111 40 1 ≡ Ok tt
+  pub a_second : append_of first_a 151 10 1 ≡ Ok tt
   pub a_next : both_a.rec.next ≡ tick 161
   pub a_state : both_a ≡ state_of head_a 2 0 161 0 2 (111 ∷ 40 ∷ 1 ∷ 151 ∷ 10 ∷ 1 ∷ [])
   pub a_gap : append_of both_a 170 10 1 ≡ gap_by 9
   -- A: the first is available from 35.1 s on; the whole period needs 100 ticks, 50 are covered, and tick 100 is lacking
-  pub a_available : availability_in both_a.rec both_a.words (number 0) ≡ NeverEnds (grains 351_000)
-  pub a_whole : verdict_whole both_a.rec both_a.words ≡ Lacking 100 50 (wide 100)
+  pub a_available : availability_in both_a.rec both_a.words (number 0) ≡ Ok (NeverEnds (grains 351_000))
+  pub a_whole : verdict_whole both_a.rec both_a.words ≡ Ok (Lacking 100 50 (wide 100))
   -- B: one append brings all five
-  pub b_open : (open_answer head_b (tick 0)).outcome ≡ Accepted
-  pub b_append : append_of open_b 0 4000 5 ≡ Accepted
+  pub b_open : (open_answer head_b (tick 0)).outcome ≡ Ok tt
+  pub b_append : append_of open_b 0 4000 5 ≡ Ok tt
   pub b_state : five_b ≡ state_of head_b 5 0 20_000 0 1 (0 ∷ 4000 ∷ 5 ∷ [])
   -- B: a trim at 13,999 drops none, one at 14,000 then one, and one at 18,000 then two in all
-  pub b_13999 : trim_of five_b 13_999 ≡ Accepted
+  pub b_13999 : trim_of five_b 13_999 ≡ Ok tt
   pub b_none : trim_b1 ≡ state_of head_b 5 0 20_000 13_999 1 (0 ∷ 4000 ∷ 5 ∷ [])
-  pub b_14000 : trim_of trim_b1 14_000 ≡ Accepted
+  pub b_14000 : trim_of trim_b1 14_000 ≡ Ok tt
   pub b_one : trim_b2 ≡ state_of head_b 5 1 20_000 14_000 1 (4000 ∷ 4000 ∷ 4 ∷ [])
-  pub b_18000 : trim_of trim_b2 18_000 ≡ Accepted
+  pub b_18000 : trim_of trim_b2 18_000 ≡ Ok tt
   pub b_two : trim_b3 ≡ state_of head_b 5 2 20_000 18_000 1 (8000 ∷ 4000 ∷ 3 ∷ [])
   -- B: the same three trims, each without the others; and at 14,001 the reference from 4,000 stays
   pub b_14000_alone : trimming five_b 14_000 ≡ state_of head_b 5 1 20_000 14_000 1 (4000 ∷ 4000 ∷ 4 ∷ [])
   pub b_14001_alone : trimming five_b 14_001 ≡ state_of head_b 5 1 20_000 14_001 1 (4000 ∷ 4000 ∷ 4 ∷ [])
   pub b_18000_alone : trimming five_b 18_000 ≡ state_of head_b 5 2 20_000 18_000 1 (8000 ∷ 4000 ∷ 3 ∷ [])
   -- B: without trims, the verdict at 14,000, at 20,001 and at 0
-  pub b_complete : verdict_at five_b.rec five_b.words (millis 14_000) ≡ Complete 10_000
-  pub b_lacking : verdict_at five_b.rec five_b.words (millis 20_001) ≡ Lacking 10_000 9_999 (wide 20_000)
-  pub b_percent : verdict_percent (verdict_at five_b.rec five_b.words (millis 20_001)) ≡ Of 99
-  pub b_nothing : verdict_at five_b.rec five_b.words (millis 0) ≡ Nothing
+  pub b_complete : verdict_at five_b.rec five_b.words (millis 14_000) ≡ Ok (Complete 10_000)
+  pub b_lacking : verdict_at five_b.rec five_b.words (millis 20_001) ≡ Ok (Lacking 10_000 9_999 (wide 20_000))
+  pub b_percent : verdict_percent (verdict_at five_b.rec five_b.words (millis 20_001)) ≡ Some 99
+  pub b_nothing : verdict_at five_b.rec five_b.words (millis 0) ≡ Ok Nothing
   -- B: when number 3 is available, before the trims and after them
-  pub b_available : availability_in five_b.rec five_b.words (number 3) ≡ Ends (grains 12_000_000) (grains 26_000_000)
-  pub b_available_after : availability_in trim_b3.rec trim_b3.words (number 3) ≡ Ends (grains 12_000_000) (grains 26_000_000)
+  pub b_available : availability_in five_b.rec five_b.words (number 3) ≡ Ok (Ends (grains 12_000_000) (grains 26_000_000))
+  pub b_available_after : availability_in trim_b3.rec trim_b3.words (number 3) ≡ Ok (Ends (grains 12_000_000) (grains 26_000_000))
   -- B: writing gives the paper's file after the last trim, byte for byte, in any output that has room for it; what stands
   -- behind it stays as it came, and a shorter output is refusal 15. Its first line has 98 digits
   pub b_head_line : length head_line_b ≡ 98
-  pub b_written : (out : List ℕ) → 145 ≤ length out → write_answer trim_b3.rec trim_b3.words (length out) ≡ Written 145
+  pub b_written : (out : List ℕ) → 145 ≤ length out → write_answer trim_b3.rec trim_b3.words (length out) ≡ Ok 145
   pub b_file : (out : List ℕ) → 145 ≤ length out → output trim_b3.rec trim_b3.words out ≡ file_b ++ drop 145 out
-  pub b_short : (room : ℕ) → room < 145 → write_number (write_answer trim_b3.rec trim_b3.words room) ≡ 15
+  pub b_short : (room : ℕ) → room < 145 → answer_number (write_answer trim_b3.rec trim_b3.words room) ≡ 15
   -- C: stamps around the next tick, and at half of the circle, with their distances
   pub c_joins : stamp_standing (stamp 2704) next_c ≡ Joins
   pub c_gap : stamp_standing (stamp 2705) next_c ≡ Gap (apart 1)
@@ -217,23 +213,23 @@ pub record ByHand : Type 0 where
   pub c_last_gap : stamp_standing (stamp 2_147_486_351) next_c ≡ Gap (apart 2_147_483_647)
   pub c_first_overlap : stamp_standing (stamp 2_147_486_352) next_c ≡ Overlap (apart 2_147_483_648)
   -- C: the same stamps as appends: accepted where it joins, 4 at a gap, 5 at an overlap
-  pub c_open : (open_answer head_c next_c).outcome ≡ Accepted
-  pub c_2704 : stamp_of open_c 2704 1000 1 ≡ Accepted
+  pub c_open : (open_answer head_c next_c).outcome ≡ Ok tt
+  pub c_2704 : stamp_of open_c 2704 1000 1 ≡ Ok tt
   pub c_2705 : stamp_of open_c 2705 1000 1 ≡ gap_by 1
   pub c_2703 : stamp_of open_c 2703 1000 1 ≡ overlap_by 1
   pub c_2147486351 : stamp_of open_c 2_147_486_351 1000 1 ≡ gap_by 2_147_483_647
   pub c_2147486352 : stamp_of open_c 2_147_486_352 1000 1 ≡ overlap_by 2_147_483_648
   pub c_state : stamping open_c 2704 1000 1 ≡ state_of head_c 1 0 4_294_971_000 0 1 (4_294_970_000 ∷ 1000 ∷ 1 ∷ [])
   -- D: ticks 0 and 1 are needed, and with one reference of 1 tick 1 is lacking
-  pub d_open : (open_answer head_d (tick 0)).outcome ≡ Accepted
-  pub d_needed : NeededTicks head_d (whole_period head_d) (Ticks (wide 0) (wide 2))
-  pub d_one : append_of open_d 0 1 1 ≡ Accepted
-  pub d_lacking : verdict_whole one_d.rec one_d.words ≡ Lacking 2 1 (wide 1)
+  pub d_open : (open_answer head_d (tick 0)).outcome ≡ Ok tt
+  pub d_needed : NeededTicks head_d (whole_period head_d) (Some (record { first = wide 0; end = wide 2 }))
+  pub d_one : append_of open_d 0 1 1 ≡ Ok tt
+  pub d_lacking : verdict_whole one_d.rec one_d.words ≡ Ok (Lacking 2 1 (wide 1))
   -- D: the file with the negative r gives two references
-  pub d_read : read_answer file_d (replicate 3 0) ≡ record { outcome = Accepted; rec = two_d.rec; line = 0 }
+  pub d_read : read_answer file_d (replicate 3 0) ≡ record { outcome = Ok tt; rec = two_d.rec; line = 0 }
   pub d_table : read_table file_d (replicate 3 0) ≡ two_d.words
   -- D: after two references of 1 the period is complete, and an append with start 2 is refusal 8
-  pub d_two : append_of one_d 1 1 1 ≡ Accepted
+  pub d_two : append_of one_d 1 1 1 ≡ Ok tt
   pub d_state : two_d ≡ state_of head_d 2 0 2 0 1 (0 ∷ 1 ∷ 2 ∷ [])
-  pub d_complete : verdict_whole two_d.rec two_d.words ≡ Complete 2
-  pub d_past : outcome_number (append_of two_d 2 1 1) ≡ 8
+  pub d_complete : verdict_whole two_d.rec two_d.words ≡ Ok (Complete 2)
+  pub d_past : answer_number (append_of two_d 2 1 1) ≡ 8

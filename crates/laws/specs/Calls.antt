@@ -1,7 +1,7 @@
 -- A timeline's calls, run by the very definitions that the contracts of `timeline` cite: the opening, and then any list of
 -- appends, trims, and pairs of the two in one call. Which appends they had accepted, which references those brought, and the
 -- greatest clock that they had accepted. Paper: Record and table; Append and trim; document 02, W-208.
-use Rattle.std.specs.Prelude.{ℕ, ◌+◌, ◌*◌, ◌≤◌, max, List, [], ◌∷◌, ◌++◌}
+use Rattle.std.specs.Prelude.{Err, Ok, ℕ, ◌+◌, ◌*◌, ◌≤◌, max, List, [], ◌∷◌, ◌++◌}
 use Rattle.units.specs.declared.WideMillis.{WideMillis}
 use Rattle.units.specs.declared.Stamp.{Stamp}
 use Rattle.units.specs.declared.Tick.{Tick}
@@ -13,8 +13,7 @@ use Rattle.window.specs.declared.Head.{Head}
 use Rattle.window.specs.declared.Reference.{Reference}
 use Rattle.runs.specs.Words.{repeated}
 use Rattle.agreement.specs.declared.Record.{Record}
-use Rattle.keeping.specs.declared.Outcome.{Outcome}
-use Rattle.keeping.specs.declared.Outcome.TheVariants.{Accepted, Refused}
+use Rattle.keeping.specs.Keeping.{Outcome}
 use Rattle.keeping.specs.Append.{given}
 use Rattle.timeline.specs.Opening.{open_answer, open_table}
 use Rattle.timeline.specs.Appending.{append_answer, append_table}
@@ -73,8 +72,8 @@ outcome_of s (pair_at t d n c) = (pair_answer s.rec s.words (stamp_standing t s.
 
 -- what an accepted call brings, and a refused one does not
 abbrev pub if_accepted : {A : Type 0} → Outcome → List A → List A
-if_accepted Accepted xs = xs
-if_accepted (Refused why) xs = []
+if_accepted (Ok _) xs = xs
+if_accepted (Err why) xs = []
 
 -- the references of an append: so many from the next tick on
 abbrev pub offered : State → Call → List Reference
@@ -114,8 +113,8 @@ laid_from t (a ∷ rest) = repeated t a.duration a.count ++ laid_from (t + a.dur
 
 -- the clock of an accepted call that trims, and 0 elsewhere
 abbrev pub clock_if : Outcome → ℕ → ℕ
-clock_if Accepted c = c
-clock_if (Refused why) c = 0
+clock_if (Ok _) c = c
+clock_if (Err why) c = 0
 
 abbrev pub clock_of : State → Call → ℕ
 clock_of s (by_tick t d n) = 0

@@ -2,11 +2,10 @@
 -- give that number: an opening the one of the first field, or of the first tick, that is refused; a trim and a verdict the one of their clock, after 2;
 -- an append the one of its duration, then of how its start stands, and with a trim behind it that of the clock first; availability of a number over
 -- its limit that number's own, after 2, and at a clock after the clock's. Paper: Units; Refusal numbers.
-use Rattle.std.specs.Prelude.{ℕ, ◌≤◌, ◌≡◌, cond, List, [], ◌∷◌, eqb, ltb}
+use Rattle.std.specs.Prelude.{None, ℕ, ◌≤◌, ◌≡◌, cond, List, [], ◌∷◌, eqb, ltb}
 use Rattle.units.specs.declared.WideTick.{WideTick}
 use Rattle.units.specs.declared.WideMillis.{WideMillis}
 use Rattle.units.specs.declared.WideNumber.{WideNumber}
-use Rattle.units.specs.declared.NumberMade.TheVariants as made_number
 use Rattle.units.specs.declared.standing.Standing.{Standing}
 use Rattle.units.specs.Limits.{largest_tick, largest_millis, largest_timescale, largest_span, largest_number, tick_made, millis_made, timescale_made, span_made, number_made, tick_of}
 use Rattle.units.specs.Limits.{tick_number, millis_number, clock_number, timescale_number, span_number, first_number, asked_number}
@@ -15,16 +14,14 @@ use Rattle.window.specs.declared.HeadFields.{HeadFields}
 use Rattle.window.specs.Limits.{head_of, head_made, head_number}
 use Rattle.agreement.specs.declared.Record.{Record}
 use Rattle.agreement.specs.Agreement.{agrees}
-use Rattle.keeping.specs.Keeping.{outcome_number}
+use Rattle.agreement.specs.Numbers.{answer_number}
 use Rattle.keeping.specs.Append.{fit_outcome}
 use Rattle.timeline.specs.Opening.{open_answer}
 use Rattle.timeline.specs.Appending.{append_answer}
 use Rattle.timeline.specs.Trimming.{trim_answer}
 use Rattle.timeline.specs.Pair.{pair_answer}
 use Rattle.answers.specs.Judgement.{verdict_at}
-use Rattle.answers.specs.Numbers.{verdict_number}
 use Rattle.lookups.specs.Available.{availability_in, available_in}
-use Rattle.lookups.specs.Numbers.{availability_number, available_number}
 use Rattle.laws.specs.Refusals.{lowest}
 
 -- the first of some numbers that refuses, 0 where none does
@@ -64,27 +61,27 @@ pub record Constructors : Type 0 where
       [])
   -- an opening has that of the head, then that of the first tick
   pub opening : (f : HeadFields) (t : WideTick) →
-      outcome_number (open_answer (head_of f) (tick_of t)).outcome ≡ first_refusal (head_number (head_made f) ∷ tick_number (tick_made t.0) ∷ [])
+      answer_number (open_answer (head_of f) (tick_of t)).outcome ≡ first_refusal (head_number (head_made f) ∷ tick_number (tick_made t.0) ∷ [])
   -- an append has 2, then that of its duration, which is one of 32 bits, 3 where its count is 0, that of how its start stands, and those from 6 on
   pub append : (rec : Record) (ws : List ℕ) (st : Standing) (d n : ℕ) → d ≤ largest_span →
-      outcome_number (append_answer rec ws st d n).outcome ≡
+      answer_number (append_answer rec ws st d n).outcome ≡
       first_refusal
-      (disagreement rec ws ∷ span_number (span_made d) ∷ cond (eqb n 0) 3 0 ∷ standing_number st ∷ outcome_number (fit_outcome rec ws d n) ∷ [])
+      (disagreement rec ws ∷ span_number (span_made d) ∷ cond (eqb n 0) 3 0 ∷ standing_number st ∷ answer_number (fit_outcome rec ws d n) ∷ [])
   -- with a trim behind it, the clock's own comes before what is given
   pub append_trim : (rec : Record) (ws : List ℕ) (st : Standing) (d n : ℕ) (c : WideMillis) → d ≤ largest_span →
-      outcome_number (pair_answer rec ws st d n c).outcome ≡
+      answer_number (pair_answer rec ws st d n c).outcome ≡
       first_refusal
       (disagreement rec ws ∷ clock_number (millis_made c.0) ∷ span_number (span_made d) ∷ cond (eqb n 0) 3 0 ∷ standing_number st ∷
-      outcome_number (fit_outcome rec ws d n) ∷ [])
+      answer_number (fit_outcome rec ws d n) ∷ [])
   -- at a clock: 2, then the clock's own
   pub trim : (rec : Record) (ws : List ℕ) (c : WideMillis) →
-      outcome_number (trim_answer rec ws c).outcome ≡ first_refusal (disagreement rec ws ∷ clock_number (millis_made c.0) ∷ [])
+      answer_number (trim_answer rec ws c).outcome ≡ first_refusal (disagreement rec ws ∷ clock_number (millis_made c.0) ∷ [])
   -- and for a verdict 11 behind them
   pub verdict : (rec : Record) (ws : List ℕ) (c : WideMillis) →
-      verdict_number (verdict_at rec ws c) ≡
+      answer_number (verdict_at rec ws c) ≡
       first_refusal (disagreement rec ws ∷ clock_number (millis_made c.0) ∷ cond (ltb c.0 rec.clock.0) 11 0 ∷ [])
   -- availability of a number that is refused has the number of that: after 2, and at a clock after the clock's own
-  pub availability : (rec : Record) (ws : List ℕ) (n : WideNumber) → number_made n.0 ≡ made_number.Refused →
-      availability_number (availability_in rec ws n) ≡ first_refusal (disagreement rec ws ∷ asked_number (number_made n.0) ∷ [])
-  pub available_at : (rec : Record) (ws : List ℕ) (n : WideNumber) (c : WideMillis) → number_made n.0 ≡ made_number.Refused →
-      available_number (available_in rec ws n c) ≡ first_refusal (disagreement rec ws ∷ clock_number (millis_made c.0) ∷ asked_number (number_made n.0) ∷ [])
+  pub availability : (rec : Record) (ws : List ℕ) (n : WideNumber) → number_made n.0 ≡ None →
+      answer_number (availability_in rec ws n) ≡ first_refusal (disagreement rec ws ∷ asked_number (number_made n.0) ∷ [])
+  pub available_at : (rec : Record) (ws : List ℕ) (n : WideNumber) (c : WideMillis) → number_made n.0 ≡ None →
+      answer_number (available_in rec ws n c) ≡ first_refusal (disagreement rec ws ∷ clock_number (millis_made c.0) ∷ asked_number (number_made n.0) ∷ [])

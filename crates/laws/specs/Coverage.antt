@@ -6,24 +6,23 @@
 -- the trim it may be given; of the whole period the verdict can change where there is a depth, since what was dropped no longer covers; and
 -- a number that was dropped is refused with 13, though its reference may still be available.
 -- Paper: Window, needed, spent; Append and trim; Verdict and availability; document 02, W-210.
-use Rattle.std.specs.Prelude.{ℕ, ◌≤◌, ◌<◌, ◌≡◌, true, List, [], ◌∷◌}
+use Rattle.std.specs.Prelude.{Result, Err, Ok, ℕ, ◌≤◌, ◌<◌, ◌≡◌, true, List, [], ◌∷◌}
 use Rattle.units.specs.declared.Tick.{Tick}
 use Rattle.units.specs.declared.WideMillis.{WideMillis}
 use Rattle.units.specs.declared.WideNumber.{WideNumber}
 use Rattle.units.specs.Limits.{largest_millis}
 use Rattle.window.specs.declared.Head.{Head}
 use Rattle.window.specs.Window.{window_at, tick_needed}
+use Rattle.agreement.specs.declared.refusal.Refusal.{Refusal}
 use Rattle.agreement.specs.declared.refusal.Refusal.TheVariants.{EarlierClock, NotKept}
 use Rattle.agreement.specs.Agreement.{agrees}
-use Rattle.keeping.specs.declared.Outcome.TheVariants.{Accepted}
 use Rattle.timeline.specs.Opening.{open_outcome}
 use Rattle.answers.specs.declared.Verdict.{Verdict}
-use Rattle.answers.specs.declared.Verdict.TheVariants.{Complete, Lacking, Refused}
+use Rattle.answers.specs.declared.Verdict.TheVariants.{Complete, Lacking}
 use Rattle.answers.specs.Cover.{covered_by}
 use Rattle.answers.specs.Judgement.{verdict_of, verdict_at, verdict_whole}
 use Rattle.answers.specs.Shares.{verdict_percent}
 use Rattle.answers.specs.Edge.{covered_edge}
-use Rattle.lookups.specs.declared.AvailableAt.TheVariants as at
 use Rattle.lookups.specs.Available.{availability_in, available_in}
 use Rattle.words.specs.Words.{head_with}
 use Rattle.flonterri.specs.Face.{trims, tells_verdict}
@@ -52,7 +51,7 @@ NoneAfter d (c ∷ cs) = (c.0 ≤ d.0) × NoneAfter d cs
 -- ---- what is told
 
 -- the verdict of a state at a clock
-abbrev pub verdict_in : State → WideMillis → Verdict
+abbrev pub verdict_in : State → WideMillis → Result Verdict Refusal
 verdict_in s d = verdict_at s.rec s.words d
 
 -- two states have one verdict at a clock: its case, needed, covered and lowest tick, and so its percent
@@ -113,9 +112,9 @@ pub record CoverageStays : Type 0 where
   -- and after any number of trims, accepted or refused, in any order
   pub trims : (s : State) (cs : List WideMillis) (d : WideMillis) → NoneAfter d cs → SameVerdict s (trimmed_at_each s cs) d
   -- from an opening on it is the verdict of all accepted references, dropped or not
-  pub as_if_kept : (h : Head) (t : Tick) (came : List ℕ) → open_outcome h t ≡ Accepted → (cs : List Call) → Plain cs →
+  pub as_if_kept : (h : Head) (t : Tick) (came : List ℕ) → open_outcome h t ≡ Ok tt → (cs : List Call) → Plain cs →
       (d : WideMillis) → greatest (opening h t came) cs ≤ d.0 → d.0 ≤ largest_millis →
-      verdict_in (after_calls (opening h t came) cs) d ≡ verdict_of h (window_at h d.0) (all_accepted (opening h t came) cs)
+      verdict_in (after_calls (opening h t came) cs) d ≡ Ok (verdict_of h (window_at h d.0) (all_accepted (opening h t came) cs))
   -- the same from C, for any words: of one trim, and of any number
   pub c_trim : (m : Memory) (c d : WideMillis) → c.0 ≤ d.0 → TellsAlike m (after_trim m c) d
   pub c_trims : (m : Memory) (cs : List WideMillis) (d : WideMillis) → NoneAfter d cs → TellsAlike m (after_trims m cs) d
@@ -126,28 +125,28 @@ pub record CoverageStays : Type 0 where
   pub edge : (s : State) (cs : List WideMillis) →
       covered_edge (trimmed_at_each s cs).rec (trimmed_at_each s cs).words ≡ covered_edge s.rec s.words
   -- B at 24,000 needs ticks 14,000 to 23,999 and has those up to 20,000: without trims, and after three that drop three of its references
-  pub b_without : verdict_in five_b (millis 24_000) ≡ Lacking 10_000 6000 (wide 20_000)
+  pub b_without : verdict_in five_b (millis 24_000) ≡ Ok (Lacking 10_000 6000 (wide 20_000))
   pub b_state : thrice_b ≡ state_of head_b 5 3 20_000 24_000 1 (12_000 ∷ 4000 ∷ 2 ∷ [])
-  pub b_with : verdict_in thrice_b (millis 24_000) ≡ Lacking 10_000 6000 (wide 20_000)
+  pub b_with : verdict_in thrice_b (millis 24_000) ≡ Ok (Lacking 10_000 6000 (wide 20_000))
   -- B with an update period of 2 s at 18,001, trimmed at 18,000: as without the trim
-  pub u_with : verdict_in (trimming five_u 18_000) (millis 18_001) ≡ Lacking 12_000 11_999 (wide 20_000)
+  pub u_with : verdict_in (trimming five_u 18_000) (millis 18_001) ≡ Ok (Lacking 12_000 11_999 (wide 20_000))
   -- record and table that agree, though no opening and no calls lead to them; at 14,000 without a trim there, and with one that drops a reference
   pub x_agrees : agrees unreached.rec unreached.words ≡ true
-  pub x_unreached : (h : Head) (t : Tick) (came : List ℕ) → open_outcome h t ≡ Accepted → (cs : List Call) → Plain cs →
+  pub x_unreached : (h : Head) (t : Tick) (came : List ℕ) → open_outcome h t ≡ Ok tt → (cs : List Call) → Plain cs →
       after_calls (opening h t came) cs ≡ unreached → ⊥
-  pub x_without : verdict_in unreached (millis 14_000) ≡ Lacking 10_000 8000 (wide 12_000)
+  pub x_without : verdict_in unreached (millis 14_000) ≡ Ok (Lacking 10_000 8000 (wide 12_000))
   pub x_state : trimming unreached 14_000 ≡ state_of head_b 5 3 12_000 14_000 1 (4000 ∷ 4000 ∷ 2 ∷ [])
-  pub x_with : verdict_in (trimming unreached 14_000) (millis 14_000) ≡ Lacking 10_000 8000 (wide 12_000)
+  pub x_with : verdict_in (trimming unreached 14_000) (millis 14_000) ≡ Ok (Lacking 10_000 8000 (wide 12_000))
   -- NOT SO of a clock before an accepted trim's, within its limit as that is: 11. B at 13,999 is complete, and after a trim at 14,000 it is refused
-  pub before : (s : State) (c d : WideMillis) → outcome_of s (trim_at c) ≡ Accepted → d.0 < c.0 → verdict_in (trimmed_at s c) d ≡ Refused EarlierClock
-  pub b_earlier : verdict_in five_b (millis 13_999) ≡ Complete 10_000
-  pub b_refused : verdict_in (trimming five_b 14_000) (millis 13_999) ≡ Refused EarlierClock
+  pub before : (s : State) (c d : WideMillis) → outcome_of s (trim_at c) ≡ Ok tt → d.0 < c.0 → verdict_in (trimmed_at s c) d ≡ Err EarlierClock
+  pub b_earlier : verdict_in five_b (millis 13_999) ≡ Ok (Complete 10_000)
+  pub b_refused : verdict_in (trimming five_b 14_000) (millis 13_999) ≡ Err EarlierClock
   -- NOT SO of the whole period: B with a period of 20 s is complete, and after a trim at 14,000 the first 4,000 ticks are lacking
-  pub e_whole : verdict_whole five_e.rec five_e.words ≡ Complete 20_000
-  pub e_trimmed : verdict_whole (trimming five_e 14_000).rec (trimming five_e 14_000).words ≡ Lacking 20_000 16_000 (wide 0)
+  pub e_whole : verdict_whole five_e.rec five_e.words ≡ Ok (Complete 20_000)
+  pub e_trimmed : verdict_whole (trimming five_e 14_000).rec (trimming five_e 14_000).words ≡ Ok (Lacking 20_000 16_000 (wide 0))
   -- but without a depth it stays too: nothing that the period needs is then ever dropped
   pub whole_without_depth : (s : State) (cs : List WideMillis) → s.rec.head.depth.0 ≡ 0 →
       verdict_whole (trimmed_at_each s cs).rec (trimmed_at_each s cs).words ≡ verdict_whole s.rec s.words
   -- NOT SO of a dropped number: B's number 1 is available at 14,000, up to 18,000, and after a trim at 14,000 it is refused with 13
-  pub b_available : available_in five_b.rec five_b.words (number 1) (millis 14_000) ≡ at.Yes
-  pub b_dropped : available_in (trimming five_b 14_000).rec (trimming five_b 14_000).words (number 1) (millis 14_000) ≡ at.Refused NotKept
+  pub b_available : available_in five_b.rec five_b.words (number 1) (millis 14_000) ≡ Ok true
+  pub b_dropped : available_in (trimming five_b 14_000).rec (trimming five_b 14_000).words (number 1) (millis 14_000) ≡ Err NotKept

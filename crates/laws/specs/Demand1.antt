@@ -6,7 +6,7 @@
 -- nothing else. Of each function this is said over the contract that the check itself makes of it (Unique says what its parts are,
 -- and has the functions that never refuse). For C the lengths of record and out are judged first.
 -- Paper: Refusal numbers; What a statement must leave no room for.
-use Rattle.std.specs.Prelude.{ℕ, ◌-◌, ◌^◌, ◌≤◌, ◌<◌, ◌≡◌, Bool, true, false, not, List, [], ◌∷◌, eqb, length, replicate}
+use Rattle.std.specs.Prelude.{Err, ℕ, ◌-◌, ◌^◌, ◌≤◌, ◌<◌, ◌≡◌, Bool, true, false, not, List, [], ◌∷◌, eqb, length, replicate}
 use Rattle.units.specs.Limits.{largest_span, tick_of}
 use Rattle.units.specs.Standing.{less32}
 use Rattle.window.specs.declared.Head.{Head}
@@ -15,20 +15,11 @@ use Rattle.agreement.specs.declared.Record.{Record}
 use Rattle.agreement.specs.declared.refusal.Refusal.{Refusal}
 use Rattle.agreement.specs.Rows.{◌when◌else◌}
 use Rattle.keeping.specs.declared.Changed.{Changed}
-use Rattle.keeping.specs.Keeping.{outcome_number, outcome_distance}
+use Rattle.agreement.specs.Numbers.{answer_distance, answer_number}
 use Rattle.timeline.specs.Opening.{zero_record}
-use Rattle.answers.specs.declared.Verdict.TheVariants.{Refused as VerdictRefused}
-use Rattle.answers.specs.Numbers.{verdict_number, edge_number}
-use Rattle.answers.specs.declared.CoveredEdge.TheVariants.{Refused as EdgeRefused}
-use Rattle.lookups.specs.declared.Availability.TheVariants.{Refused as AvailabilityRefused}
-use Rattle.lookups.specs.declared.AvailableAt.TheVariants.{Refused as AvailableRefused}
-use Rattle.lookups.specs.declared.stamps.FullTick.TheVariants.{Refused as FullTickRefused}
-use Rattle.lookups.specs.declared.Touching.TheVariants.{Refused as TouchingRefused}
-use Rattle.lookups.specs.Numbers.{availability_number, available_number, touching_number, full_tick_number}
 use Rattle.file.specs.declared.Reader.{Reader}
 use Rattle.file.specs.declared.ReadAnswer.{ReadAnswer}
 use Rattle.file.specs.Feeding.{belongs}
-use Rattle.writing.specs.Writing.{write_number}
 use Rattle.words.specs.Words.{record_words, head_with, record_of}
 use Rattle.timeline.proofs as timeline
 use Rattle.answers.proofs as answers
@@ -50,12 +41,12 @@ pub record GivesNumber (n : ℕ) (rows : List (Bool × ℕ)) (left : Type 0) : T
 
 -- a call that changes: refused, it answers this record and leaves these words
 abbrev pub Changes : Changed → List ℕ → List (Bool × ℕ) → Record → List ℕ → Type 0
-Changes x after rows rec ws = GivesNumber (outcome_number x.outcome) rows ((x.rec ≡ rec) × (after ≡ ws))
+Changes x after rows rec ws = GivesNumber (answer_number x.outcome) rows ((x.rec ≡ rec) × (after ≡ ws))
 
 -- an append, by itself or with a trim behind it: the same, and with 4 and 5 its distance, of a start that lies so far after the next tick or so far before it
 pub record Appends (x : Changed) (after : List ℕ) (rows : List (Bool × ℕ)) (rec : Record) (ws : List ℕ) (ahead behind : ℕ) : Type 0 where
   pub changes : Changes x after rows rec ws
-  pub distance : outcome_distance x.outcome ≡ distance_with (outcome_number x.outcome) ahead behind
+  pub distance : answer_distance x.outcome ≡ distance_with (answer_number x.outcome) ahead behind
 
 -- an answer is a refusal and nothing else
 abbrev pub Only : {A : Type 0} → (Refusal → A) → A → Type 0
@@ -63,14 +54,14 @@ Only refused x = (why : Refusal) × (x ≡ refused why)
 
 -- a reading: accepted, it answers line 0; refused, a zero record and the line, which is 1 at least, and all words are 0
 pub record Zeroes (x : ReadAnswer) (after before : List ℕ) : Type 0 where
-  pub accepted : outcome_number x.outcome ≡ 0 → x.line ≡ 0
-  pub refused : (outcome_number x.outcome ≡ 0 → ⊥) → (x.rec ≡ zero_record) × (1 ≤ x.line) × (after ≡ replicate (length before) 0)
+  pub accepted : answer_number x.outcome ≡ 0 → x.line ≡ 0
+  pub refused : (answer_number x.outcome ≡ 0 → ⊥) → (x.rec ≡ zero_record) × (1 ≤ x.line) × (after ≡ replicate (length before) 0)
 
 -- of a whole file: its number, its line and its distance are those of the first refused line, by the rows of Lines
 pub record Reads (bytes : List ℕ) (x : ReadAnswer) (after before : List ℕ) : Type 0 where
-  pub number : outcome_number x.outcome ≡ (judged_file bytes before).number
+  pub number : answer_number x.outcome ≡ (judged_file bytes before).number
   pub line : x.line ≡ (judged_file bytes before).line
-  pub distance : outcome_distance x.outcome ≡ (judged_file bytes before).distance
+  pub distance : answer_distance x.outcome ≡ (judged_file bytes before).distance
   pub left : Zeroes x after before
 
 -- a reader that is fed: where it and the table do not belong together, neither changes
@@ -80,7 +71,7 @@ Feeds reader before x after = belongs reader before ≡ false → (x ≡ reader)
 -- and its end: where they do not, it answers 2, a zero record and line 0, and no word changes; else it is a reading
 pub record Finishes (reader : Reader) (before : List ℕ) (x : ReadAnswer) (after : List ℕ) : Type 0 where
   pub apart : belongs reader before ≡ false →
-      (outcome_number x.outcome ≡ 2) × (x.rec ≡ zero_record) × (x.line ≡ 0) × (after ≡ before)
+      (answer_number x.outcome ≡ 2) × (x.rec ≡ zero_record) × (x.line ≡ 0) × (after ≡ before)
   pub together : belongs reader before ≡ true → Zeroes x after before
 
 -- ---- C: lengths first
@@ -151,24 +142,24 @@ pub record Demand1 : Type 0 where
       (λ (rec, (table, (clock, _))) x (_, (table', _)). Changes x table'.now (trim_rows rec table.now clock) rec table.now)
   -- the calls that look: no word of the table can change
   pub verdict : Answers answers.verdicts.verdict.Reads.Asked answers.verdicts.verdict.Reads.Learnt
-      (λ (rec, (table, (clock, _))) x _. GivesNumber (verdict_number x) (verdict_rows rec table.now clock) (Only VerdictRefused x))
+      (λ (rec, (table, (clock, _))) x _. GivesNumber (answer_number x) (verdict_rows rec table.now clock) (Only Err x))
   pub verdict_whole_lem : Answers answers.verdicts.verdict_whole.Reads.Asked answers.verdicts.verdict_whole.Reads.Learnt
-      (λ (rec, (table, _)) x _. GivesNumber (verdict_number x) (whole_rows rec table.now) (Only VerdictRefused x))
+      (λ (rec, (table, _)) x _. GivesNumber (answer_number x) (whole_rows rec table.now) (Only Err x))
   pub availability : Answers lookups.times.availability.Reads.Asked lookups.times.availability.Reads.Learnt
       (λ (rec, (table, (number, _))) x _.
-      GivesNumber (availability_number x) (availability_rows rec table.now number) (Only AvailabilityRefused x))
+      GivesNumber (answer_number x) (availability_rows rec table.now number) (Only Err x))
   pub available_at : Answers lookups.times.available_at.Reads.Asked lookups.times.available_at.Reads.Learnt
       (λ (rec, (table, (number, (clock, _)))) x _.
-      GivesNumber (available_number x) (available_rows rec table.now number clock) (Only AvailableRefused x))
+      GivesNumber (answer_number x) (available_rows rec table.now number clock) (Only Err x))
   pub full_tick_lem : Answers lookups.stamps.full_tick.Reads.Asked lookups.stamps.full_tick.Reads.Learnt
-      (λ (rec, (table, _)) x _. GivesNumber (full_tick_number x) (full_tick_rows rec table.now) (Only FullTickRefused x))
+      (λ (rec, (table, _)) x _. GivesNumber (answer_number x) (full_tick_rows rec table.now) (Only Err x))
   pub touching_words_lem : Answers lookups.spans.touching_words.Reads.Asked lookups.spans.touching_words.Reads.Learnt
-      (λ (rec, (table, (from, (to, _)))) x _. GivesNumber (touching_number x) (touching_rows rec table.now from to) (Only TouchingRefused x))
+      (λ (rec, (table, (from, (to, _)))) x _. GivesNumber (answer_number x) (touching_rows rec table.now from to) (Only Err x))
   -- the part of the table itself gives no number: it is empty where the span lookup refuses
   pub touching : Answers lookups.spans.touching.Reads.Asked lookups.spans.touching.Reads.Learnt
       (λ (rec, (table, (from, (to, _)))) x _. (lowest (touching_rows rec table.now from to) ≡ 0 → ⊥) → x.now ≡ [])
   pub covered_edge_lem : Answers answers.edges.covered_edge.Reads.Asked answers.edges.covered_edge.Reads.Learnt
-      (λ (rec, (table, _)) x _. GivesNumber (edge_number x) (edge_rows rec table.now) (Only EdgeRefused x))
+      (λ (rec, (table, _)) x _. GivesNumber (answer_number x) (edge_rows rec table.now) (Only Err x))
   -- reading, at once and piece by piece
   pub read : Answers file.read.Reads.Asked file.read.Reads.Learnt
       (λ (bytes, (table, _)) x (_, (table', _)). Reads bytes.now x table'.now table.now)
@@ -179,7 +170,7 @@ pub record Demand1 : Type 0 where
       (λ (reader, (table, _)) x (_, (table', _)). Finishes reader table.now x table'.now)
   pub write : Answers writing.write.Reads.Asked writing.write.Reads.Learnt
       (λ (rec, (table, (out, _))) x (_, (_, (out', _))).
-      GivesNumber (write_number x) (write_rows rec table.now (length out.now)) (out'.now ≡ out.now))
+      GivesNumber (answer_number x) (write_rows rec table.now (length out.now)) (out'.now ≡ out.now))
   -- the program answers each input by a line
   pub desk_begins : AnyInput report.begin.Reads.Asked
   pub desk_feed : AnyInput report.feed.Reads.Asked

@@ -5,7 +5,7 @@
 -- to that plus the depth and its own duration. A file that we write reads back as the same references under the same numbers,
 -- and equal kept timelines give equal files. A negative r stands for the least count that reaches the period end.
 -- Paper: Verdict and availability; The file; Refusal numbers; What a statement must leave no room for.
-use Rattle.std.specs.Prelude.{ℕ, ◌+◌, ◌*◌, ◌≤◌, ◌<◌, ◌≡◌, Bool, true, false, ◌&&◌, List, ◌∷◌, ◌++◌, ℤ, pos, ◌+ℤ◌, ◌-ℤ◌, ◌*ℤ◌, length, take}
+use Rattle.std.specs.Prelude.{Err, Ok, Some, ℕ, ◌+◌, ◌*◌, ◌≤◌, ◌<◌, ◌≡◌, Bool, true, false, ◌&&◌, List, ◌∷◌, ◌++◌, ℤ, pos, ◌+ℤ◌, ◌-ℤ◌, ◌*ℤ◌, length, take}
 use Rattle.std.specs.Int.Signed.{le_z, lt_z}
 use Rattle.units.specs.Exactly.{ExactlyWhen}
 use Rattle.units.specs.declared.Grain.{Grain}
@@ -24,24 +24,20 @@ use Rattle.agreement.specs.declared.Record.{Record}
 use Rattle.agreement.specs.declared.refusal.Refusal.{Refusal}
 use Rattle.agreement.specs.declared.refusal.Refusal.TheVariants as refusal
 use Rattle.agreement.specs.Agreement.{kept, agrees}
-use Rattle.keeping.specs.declared.Outcome.TheVariants as outcome
 use Rattle.keeping.specs.Keeping.{words_keeping}
 use Rattle.keeping.specs.Append.{fit_outcome}
 use Rattle.answers.specs.declared.Verdict.TheVariants as verdict
-use Rattle.answers.specs.declared.Percent.TheVariants.{Of}
 use Rattle.answers.specs.Cover.{covered_by}
 use Rattle.answers.specs.Counts.{count_below}
 use Rattle.answers.specs.Judgement.{verdict_at, verdict_whole, Whole, Lowest}
 use Rattle.answers.specs.Shares.{verdict_percent}
 use Rattle.lookups.specs.declared.Availability.TheVariants as availability
-use Rattle.lookups.specs.declared.AvailableAt.TheVariants as at
 use Rattle.lookups.specs.Available.{availability_in, available_in}
 use Rattle.frames.specs.declared.SFields.{SFields}
 use Rattle.file.specs.declared.Reading.{Reading}
 use Rattle.file.specs.declared.Stage.TheVariants.{Filled}
 use Rattle.file.specs.Least.{least_count}
 use Rattle.file.specs.Judging.{first_negative, appended_by, take_s, read_answer, read_table}
-use Rattle.writing.specs.declared.WriteAnswer.TheVariants.{Written}
 use Rattle.writing.specs.Writing.{file_for, write_answer, output_by, read_back}
 
 -- ---- verdicts
@@ -132,7 +128,7 @@ pub record Writes (rec : Record) (ws : List ℕ) (room n : ℕ) : Type 0 where
 -- bytes that read, into a table that came with the words `came`, as what record and table keep: the record is exactly
 -- `read_back`, the table keeps just the same references, and their numbers are the same
 pub record ReadsBack (rec : Record) (ws came bytes : List ℕ) : Type 0 where
-  pub answer : read_answer bytes came ≡ record { outcome = outcome.Accepted; rec = read_back rec ws; line = 0 }
+  pub answer : read_answer bytes came ≡ record { outcome = Ok tt; rec = read_back rec ws; line = 0 }
   pub table : read_table bytes came ≡ words_keeping came (kept rec ws)
   pub references : kept (read_back rec ws) (read_table bytes came) ≡ kept rec ws
   pub number : first_kept (read_back rec ws) ≡ first_kept rec
@@ -159,49 +155,49 @@ pub record SameKept (rec : Record) (ws : List ℕ) (other : Record) (vs : List �
 pub record Demand2 : Type 0 where
   -- a verdict at a clock, and of the whole period: each case exactly when
   pub complete_at : (rec : Record) (ws : List ℕ) (c : WideMillis) (n : ℕ) →
-      ExactlyWhen (verdict_at rec ws c ≡ verdict.Complete n) (MayAsk rec ws c × Completes rec.head (at_clock rec c) (kept rec ws) n)
+      ExactlyWhen (verdict_at rec ws c ≡ Ok (verdict.Complete n)) (MayAsk rec ws c × Completes rec.head (at_clock rec c) (kept rec ws) n)
   pub complete_whole : (rec : Record) (ws : List ℕ) (n : ℕ) →
-      ExactlyWhen (verdict_whole rec ws ≡ verdict.Complete n) (MayAskWhole rec ws × Completes rec.head (in_whole rec) (kept rec ws) n)
+      ExactlyWhen (verdict_whole rec ws ≡ Ok (verdict.Complete n)) (MayAskWhole rec ws × Completes rec.head (in_whole rec) (kept rec ws) n)
   pub lacking_at : (rec : Record) (ws : List ℕ) (c : WideMillis) (n m : ℕ) (k : WideTick) →
-      ExactlyWhen (verdict_at rec ws c ≡ verdict.Lacking n m k) (MayAsk rec ws c × Lacks rec.head (at_clock rec c) (kept rec ws) n m k.0)
+      ExactlyWhen (verdict_at rec ws c ≡ Ok (verdict.Lacking n m k)) (MayAsk rec ws c × Lacks rec.head (at_clock rec c) (kept rec ws) n m k.0)
   pub lacking_whole : (rec : Record) (ws : List ℕ) (n m : ℕ) (k : WideTick) →
-      ExactlyWhen (verdict_whole rec ws ≡ verdict.Lacking n m k) (MayAskWhole rec ws × Lacks rec.head (in_whole rec) (kept rec ws) n m k.0)
+      ExactlyWhen (verdict_whole rec ws ≡ Ok (verdict.Lacking n m k)) (MayAskWhole rec ws × Lacks rec.head (in_whole rec) (kept rec ws) n m k.0)
   pub nothing_at : (rec : Record) (ws : List ℕ) (c : WideMillis) →
-      ExactlyWhen (verdict_at rec ws c ≡ verdict.Nothing) (MayAsk rec ws c × NeedsNone rec.head (at_clock rec c))
+      ExactlyWhen (verdict_at rec ws c ≡ Ok verdict.Nothing) (MayAsk rec ws c × NeedsNone rec.head (at_clock rec c))
   pub nothing_whole : (rec : Record) (ws : List ℕ) →
-      ExactlyWhen (verdict_whole rec ws ≡ verdict.Nothing) (MayAskWhole rec ws × NeedsNone rec.head (in_whole rec))
+      ExactlyWhen (verdict_whole rec ws ≡ Ok verdict.Nothing) (MayAskWhole rec ws × NeedsNone rec.head (in_whole rec))
   pub refused_at_lem : (rec : Record) (ws : List ℕ) (c : WideMillis) (why : Refusal) →
-      ExactlyWhen (verdict_at rec ws c ≡ verdict.Refused why) (MayNotAsk rec ws c why)
+      ExactlyWhen (verdict_at rec ws c ≡ Err why) (MayNotAsk rec ws c why)
   pub refused_whole : (rec : Record) (ws : List ℕ) (why : Refusal) →
-      ExactlyWhen (verdict_whole rec ws ≡ verdict.Refused why) (MayNotAskWhole rec ws why)
+      ExactlyWhen (verdict_whole rec ws ≡ Err why) (MayNotAskWhole rec ws why)
   -- a test is passed by one number of numbers, whatever the bound
   pub one_count : (p : ℕ → Bool) (m n : ℕ) → Many p m → Many p n → m ≡ n
   -- the percent is 100 exactly when the verdict is complete
   pub hundred_at : (rec : Record) (ws : List ℕ) (c : WideMillis) →
-      ExactlyWhen (verdict_percent (verdict_at rec ws c) ≡ Of 100) ((n : ℕ) × (verdict_at rec ws c ≡ verdict.Complete n))
+      ExactlyWhen (verdict_percent (verdict_at rec ws c) ≡ Some 100) ((n : ℕ) × (verdict_at rec ws c ≡ Ok (verdict.Complete n)))
   pub hundred_whole : (rec : Record) (ws : List ℕ) →
-      ExactlyWhen (verdict_percent (verdict_whole rec ws) ≡ Of 100) ((n : ℕ) × (verdict_whole rec ws ≡ verdict.Complete n))
+      ExactlyWhen (verdict_percent (verdict_whole rec ws) ≡ Some 100) ((n : ℕ) × (verdict_whole rec ws ≡ Ok (verdict.Complete n)))
   -- the kept reference behind `xs` has the number of the first kept one plus their count
   pub available_ends : (rec : Record) (ws : List ℕ) → agrees rec ws ≡ true → 1 ≤ rec.head.depth.0 →
       (xs ys : List Reference) (r : Reference) → kept rec ws ≡ xs ++ r ∷ ys →
-      availability_in rec ws (wide_number (first_kept rec + length xs)) ≡ availability.Ends (grain (starts_at rec.head r)) (grain (ends_at rec.head r))
+      availability_in rec ws (wide_number (first_kept rec + length xs)) ≡ Ok (availability.Ends (grain (starts_at rec.head r)) (grain (ends_at rec.head r)))
   pub available_ever : (rec : Record) (ws : List ℕ) → agrees rec ws ≡ true → rec.head.depth.0 ≡ 0 →
       (xs ys : List Reference) (r : Reference) → kept rec ws ≡ xs ++ r ∷ ys →
-      availability_in rec ws (wide_number (first_kept rec + length xs)) ≡ availability.NeverEnds (grain (starts_at rec.head r))
+      availability_in rec ws (wide_number (first_kept rec + length xs)) ≡ Ok (availability.NeverEnds (grain (starts_at rec.head r)))
   pub available_at : (rec : Record) (ws : List ℕ) → agrees rec ws ≡ true → (c : WideMillis) → c.0 ≤ largest_millis →
       (xs ys : List Reference) (r : Reference) → kept rec ws ≡ xs ++ r ∷ ys →
-      ExactlyWhen (available_in rec ws (wide_number (first_kept rec + length xs)) c ≡ at.Yes) (Offered rec.head r c)
+      ExactlyWhen (available_in rec ws (wide_number (first_kept rec + length xs)) c ≡ Ok true) (Offered rec.head r c)
   -- where record and table disagree every number is refused with 2, and else one that no kept reference has with 13
   pub available_disagreed : (rec : Record) (ws : List ℕ) (n : WideNumber) → agrees rec ws ≡ false →
-      availability_in rec ws n ≡ availability.Refused refusal.Disagreement
+      availability_in rec ws n ≡ Err refusal.Disagreement
   pub not_kept_lem : (rec : Record) (ws : List ℕ) → agrees rec ws ≡ true →
       (n : ℕ) → ((i : ℕ) → i < length (kept rec ws) → n ≡ first_kept rec + i → ⊥) →
-      availability_in rec ws (wide_number n) ≡ availability.Refused refusal.NotKept
+      availability_in rec ws (wide_number n) ≡ Err refusal.NotKept
   -- a file is written exactly when record and table agree, a run is kept and the output has room for all of it
   pub written : (rec : Record) (ws : List ℕ) (room n : ℕ) →
-      ExactlyWhen (write_answer rec ws room ≡ Written n) (Writes rec ws room n)
+      ExactlyWhen (write_answer rec ws room ≡ Ok n) (Writes rec ws room n)
   -- what was written into an output reads back, in any table with room for the used runs
-  pub read_back_lem : (rec : Record) (ws out : List ℕ) (n : ℕ) → write_answer rec ws (length out) ≡ Written n →
+  pub read_back_lem : (rec : Record) (ws out : List ℕ) (n : ℕ) → write_answer rec ws (length out) ≡ Ok n →
       (came : List ℕ) → rec.used ≤ capacity came → ReadsBack rec ws came (take n (output rec ws out))
   -- equal kept timelines give equal answers and equal bytes
   pub same_file : (rec other : Record) (ws vs : List ℕ) → agrees rec ws ≡ true → agrees other vs ≡ true → SameKept rec ws other vs →

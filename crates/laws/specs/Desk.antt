@@ -3,7 +3,7 @@
 -- the file is accepted; one tick at least is needed, and every needed tick lies in a reference that was read and kept. Lacking and nothing needed in the
 -- same way. Refused: the clock line at line 0, then a line of the file, with the distance of a gap or an overlap, then at line 0 a whole period whose
 -- end is not known. So a verdict on a file that was just read is refused with 19 alone. Paper: The file (the program); Verdict and availability; Refusal numbers.
-use Rattle.std.specs.Prelude.{ℕ, ◌*◌, ◌/◌, ◌^◌, ◌≤◌, ◌<◌, ◌≡◌, true, List, [], ◌∷◌, ◌++◌, eqb, replicate}
+use Rattle.std.specs.Prelude.{Err, Ok, ℕ, ◌*◌, ◌/◌, ◌^◌, ◌≤◌, ◌<◌, ◌≡◌, true, List, [], ◌∷◌, ◌++◌, eqb, replicate}
 use Rattle.units.specs.Exactly.{ExactlyWhen}
 use Rattle.units.specs.Limits.{largest_millis}
 use Rattle.window.specs.Window.{Stretch, window_at, whole_period}
@@ -12,7 +12,6 @@ use Rattle.agreement.specs.declared.refusal.Refusal.{Refusal}
 use Rattle.agreement.specs.Agreement.{kept, agrees}
 use Rattle.agreement.specs.Rows.{◌when◌else◌}
 use Rattle.agreement.specs.Numbers.{refusal_number, refusal_distance}
-use Rattle.keeping.specs.declared.Outcome.TheVariants as outcome
 use Rattle.timeline.specs.Opening.{zero_record}
 use Rattle.frames.specs.declared.Frame.TheVariants.{Clock}
 use Rattle.frames.specs.Frames.{line_of}
@@ -42,7 +41,7 @@ lent = replicate table_length 0
 
 -- the file is accepted, as this record and this table
 pub record Accepts (file : List ℕ) (rec : Record) (ws : List ℕ) : Type 0 where
-  pub answer : read_answer file lent ≡ record { outcome = outcome.Accepted; rec = rec; line = 0 }
+  pub answer : read_answer file lent ≡ record { outcome = Ok tt; rec = rec; line = 0 }
   pub table : read_table file lent ≡ ws
 
 -- the window that a clock asks about: that of the clock, or the whole period, whose end must be known
@@ -92,7 +91,7 @@ pub data Refused (input : List ℕ) : ℕ → ℕ → ℕ → Type 0 where
   over : (clock : ℕ) (file : List ℕ) → Asks input clock file → largest_millis < clock → (clock ≡ all_ones → ⊥) → Refused input 10 0 0
   -- the clock line asks, and a line of the file is the first to be refused: its own number, which line, and how far a start lies from the next tick
   bad_line : (clock : ℕ) (file : List ℕ) (why : Refusal) (line : ℕ) → Asks input clock file → Verdicts clock →
-      read_answer file lent ≡ record { outcome = outcome.Refused why; rec = zero_record; line = line } → Refused input (refusal_number why) line (refusal_distance why)
+      read_answer file lent ≡ record { outcome = Err why; rec = zero_record; line = line } → Refused input (refusal_number why) line (refusal_distance why)
   -- 19 at line 0: the whole period is asked of a file that is accepted, and its end is not known
   no_end : (file : List ℕ) (rec : Record) (ws : List ℕ) → Asks input all_ones file → Accepts file rec ws → rec.head.duration.0 ≡ 0 → Refused input 19 0 0
 
@@ -151,4 +150,4 @@ pub record DeskSays : Type 0 where
   pub at_zero : (file : List ℕ) (rec : Record) (ws : List ℕ) → Accepts file rec ws → rec.clock.0 ≡ 0
   -- the lines of a file are numbered from 1, so that line 0 is the clock line or the verdict
   pub from_one : (file : List ℕ) (why : Refusal) (line : ℕ) →
-      read_answer file lent ≡ record { outcome = outcome.Refused why; rec = zero_record; line = line } → 1 ≤ line
+      read_answer file lent ≡ record { outcome = Err why; rec = zero_record; line = line } → 1 ≤ line

@@ -3,7 +3,7 @@
 -- exactly those accepted references that are needed at the greatest accepted clock or at some later whole millisecond. Two lists
 -- of calls with the same accepted appends in the same order and the same greatest accepted clock end in the same record and table.
 -- Paper: Record and table; Append and trim; What a statement must leave no room for.
-use Rattle.std.specs.Prelude.{ℕ, ◌+◌, ◌≤◌, ◌≡◌, true, List, [], ◌∷◌, length, drop}
+use Rattle.std.specs.Prelude.{Err, Ok, ℕ, ◌+◌, ◌≤◌, ◌≡◌, true, List, [], ◌∷◌, length, drop}
 use Rattle.units.specs.declared.Tick.{Tick}
 use Rattle.window.specs.declared.Head.{Head}
 use Rattle.window.specs.declared.Reference.{Reference}
@@ -14,7 +14,6 @@ use Rattle.runs.specs.Ends.{last_end}
 use Rattle.agreement.specs.declared.refusal.Refusal.{Refusal}
 use Rattle.agreement.specs.declared.refusal.Refusal.TheVariants.{Disagreement}
 use Rattle.agreement.specs.Agreement.{kept, agrees}
-use Rattle.keeping.specs.declared.Outcome.TheVariants.{Accepted, Refused}
 use Rattle.timeline.specs.Opening.{zero_record, open_outcome}
 use Rattle.laws.specs.Calls.{Call, Plain, State, opening, after_calls, outcome_of, all_accepted, accepted_appends, laid_from, greatest}
 
@@ -62,7 +61,7 @@ pub record Holds (h : Head) (t : Tick) (words : ℕ) (s : State) (accepted : Lis
 
 -- two lists of calls, each from an opening with head h and first tick t, over tables that came with one length
 pub record Mixings (h : Head) (t : Tick) (came other : List ℕ) (cs ds : List Call) : Type 0 where
-  pub opens : open_outcome h t ≡ Accepted
+  pub opens : open_outcome h t ≡ Ok tt
   pub one_length : length came ≡ length other
   pub first : Plain cs
   pub second : Plain ds
@@ -70,10 +69,10 @@ pub record Mixings (h : Head) (t : Tick) (came other : List ℕ) (cs ds : List C
 
 pub record Demand3 : Type 0 where
   -- what any list of calls holds from an accepted opening, whatever words the table came with
-  pub holds : (h : Head) (t : Tick) (came : List ℕ) → open_outcome h t ≡ Accepted → (cs : List Call) → Plain cs →
+  pub holds : (h : Head) (t : Tick) (came : List ℕ) → open_outcome h t ≡ Ok tt → (cs : List Call) → Plain cs →
       Holds h t (length came) (after_calls (opening h t came) cs) (all_accepted (opening h t came) cs) (greatest (opening h t came) cs)
   -- the accepted references are those of the accepted appends, laid end to start from the first tick on
-  pub laid : (h : Head) (t : Tick) (came : List ℕ) → open_outcome h t ≡ Accepted → (cs : List Call) →
+  pub laid : (h : Head) (t : Tick) (came : List ℕ) → open_outcome h t ≡ Ok tt → (cs : List Call) →
       all_accepted (opening h t came) cs ≡ laid_from t.0 (accepted_appends (opening h t came) cs)
   -- the same accepted appends in the same order, and the same greatest accepted clock: the same record and table
   pub same : (h : Head) (t : Tick) (came other : List ℕ) (cs ds : List Call) → Mixings h t came other cs ds →
@@ -84,6 +83,6 @@ pub record Demand3 : Type 0 where
       all_accepted (opening h t came) cs ≡ all_accepted (opening h t other) ds →
       after_calls (opening h t came) cs ≡ after_calls (opening h t other) ds
   -- a refused opening leaves a zero record and the words as they came; every call on these is refused with 2, and so they stay
-  pub refused : (h : Head) (t : Tick) (came : List ℕ) (why : Refusal) → open_outcome h t ≡ Refused why → (cs : List Call) →
+  pub refused : (h : Head) (t : Tick) (came : List ℕ) (why : Refusal) → open_outcome h t ≡ Err why → (cs : List Call) →
       after_calls (opening h t came) cs ≡ record { rec = zero_record; words = came }
-  pub never : (came : List ℕ) (c : Call) → outcome_of (record { rec = zero_record; words = came }) c ≡ Refused Disagreement
+  pub never : (came : List ℕ) (c : Call) → outcome_of (record { rec = zero_record; words = came }) c ≡ Err Disagreement

@@ -3,7 +3,7 @@
 -- record and the table of the same calls by value, and demand 3 holds of them. An older copy of a record is not always refused with 2: it
 -- agrees wherever the words still fit it, and then it is taken for the record; three such copies of B stand at the end.
 -- Paper: Record and table; Append and trim; What a statement must leave no room for; document 02, W-207.
-use Rattle.std.specs.Prelude.{ℕ, ◌≡◌, Bool, true, List, [], ◌∷◌, length}
+use Rattle.std.specs.Prelude.{Err, Ok, ℕ, ◌≡◌, Bool, true, List, [], ◌∷◌, length}
 use seplogic.Ra.Ura.{Ura}
 use base.Logic.{SProp, sep, emp}
 use prog.Memory.{Memory}
@@ -22,9 +22,8 @@ use Rattle.agreement.specs.declared.Record.{Record}
 use Rattle.agreement.specs.declared.refusal.Refusal.{Refusal}
 use Rattle.agreement.specs.declared.refusal.Refusal.TheVariants.{Disagreement}
 use Rattle.agreement.specs.Agreement.{agrees}
-use Rattle.keeping.specs.declared.Outcome.{Outcome}
-use Rattle.keeping.specs.declared.Outcome.TheVariants.{Accepted, Refused}
-use Rattle.keeping.specs.Keeping.{outcome_number}
+use Rattle.keeping.specs.Keeping.{Outcome}
+use Rattle.agreement.specs.Numbers.{answer_number}
 use Rattle.timeline.specs.Opening.{open_outcome}
 use Rattle.held.specs.Following.{followed, followed_table}
 use Rattle.lent.specs.contracts as lent
@@ -114,14 +113,14 @@ pub record LentRight : Type 2 where
   pub one_answer : (s : State) (c : Call) (o p : Outcome) (left other : State) → Lent s c o left → Lent s c p other → o ≡ p
   pub one_left : (s : State) (c : Call) (o p : Outcome) (left other : State) → Lent s c o left → Lent s c p other → left ≡ other
   -- its number is that of the first row that holds, 0 where none does
-  pub number : (s : State) (c : Call) (o : Outcome) (left : State) → Plain (c ∷ []) → Lent s c o left → outcome_number o ≡ lowest (rows_of s c)
+  pub number : (s : State) (c : Call) (o : Outcome) (left : State) → Plain (c ∷ []) → Lent s c o left → answer_number o ≡ lowest (rows_of s c)
   -- refused, every field of the record and every word is as it came
-  pub refused : (s : State) (c : Call) (why : Refusal) (left : State) → Lent s c (Refused why) left → left ≡ s
+  pub refused : (s : State) (c : Call) (why : Refusal) (left : State) → Lent s c (Err why) left → left ≡ s
   -- calls over one lent record answer what the same calls answer by value, and end in the same record and table
   pub answers : (s : State) (cs : List Call) (os : List Outcome) (left : State) → LentCalls s cs os left → os ≡ outcomes_of s cs
   pub ends : (s : State) (cs : List Call) (os : List Outcome) (left : State) → LentCalls s cs os left → left ≡ after_calls s cs
   -- so demand 3 holds of them: what they hold from an accepted opening on, and that the mixing makes no difference
-  pub holds : (h : Head) (t : Tick) (came : List ℕ) → open_outcome h t ≡ Accepted → (cs : List Call) → Plain cs → (os : List Outcome) (left : State) →
+  pub holds : (h : Head) (t : Tick) (came : List ℕ) → open_outcome h t ≡ Ok tt → (cs : List Call) → Plain cs → (os : List Outcome) (left : State) →
       LentCalls (opening h t came) cs os left → Holds h t (length came) left (all_accepted (opening h t came) cs) (greatest (opening h t came) cs)
   pub same : (h : Head) (t : Tick) (came other : List ℕ) (cs ds : List Call) → Mixings h t came other cs ds →
       accepted_appends (opening h t came) cs ≡ accepted_appends (opening h t other) ds → (os ps : List Outcome) (left right : State) →
@@ -134,17 +133,17 @@ pub record LentRight : Type 2 where
   -- an older copy is taken for the record wherever the words are still as they were
   pub unseen : (s : State) (cs : List Call) (c : Call) → (after_calls s cs).words ≡ s.words → outcome_of (older_over s (after_calls s cs)) c ≡ outcome_of s c
   -- and one that keeps nothing, the opening's own among them, wherever nothing is kept any more
-  pub unseen_empty : (h : Head) (t : Tick) (came : List ℕ) → open_outcome h t ≡ Accepted → (cs ds : List Call) → Plain cs → Plain ds →
+  pub unseen_empty : (h : Head) (t : Tick) (came : List ℕ) → open_outcome h t ≡ Ok tt → (cs ds : List Call) → Plain cs → Plain ds →
       kept_by (after_calls (opening h t came) cs) ≡ [] → kept_by (after_calls (opening h t came) ds) ≡ [] →
       agrees (after_calls (opening h t came) cs).rec (after_calls (opening h t came) ds).words ≡ true
   -- B: where a trim dropped a reference, the copy from before it is 2
-  pub b_told : append_of (older_over trim_b1 trim_b2) 20_000 4000 1 ≡ Refused Disagreement
+  pub b_told : append_of (older_over trim_b1 trim_b2) 20_000 4000 1 ≡ Err Disagreement
   -- B: where a trim only raised the clock, it is accepted, and the clock is lost
-  pub b_raised : append_of (older_over five_b trim_b1) 20_000 4000 1 ≡ Accepted
+  pub b_raised : append_of (older_over five_b trim_b1) 20_000 4000 1 ≡ Ok tt
   pub b_clock_lost : appending (older_over five_b trim_b1) 20_000 4000 1 ≡ state_of head_b 6 0 24_000 0 1 (0 ∷ 4000 ∷ 6 ∷ [])
   -- B: behind an append that was spent at once, the same append is accepted again, under the same number
-  pub b_spent : append_of (older_over late_b (appending late_b 0 4000 1)) 0 4000 1 ≡ Accepted
+  pub b_spent : append_of (older_over late_b (appending late_b 0 4000 1)) 0 4000 1 ≡ Ok tt
   pub b_counted_once : appending (older_over late_b (appending late_b 0 4000 1)) 0 4000 1 ≡ state_of head_b 1 1 4000 30_000 0 (0 ∷ 0 ∷ 0 ∷ [])
   -- B: once all are dropped, the opening's own record accepts the first again, under its old number
-  pub b_emptied : append_of (older_over open_b empty_b) 0 4000 5 ≡ Accepted
+  pub b_emptied : append_of (older_over open_b empty_b) 0 4000 5 ≡ Ok tt
   pub b_old_numbers : appending (older_over open_b empty_b) 0 4000 5 ≡ five_b

@@ -2,14 +2,14 @@
 -- one too many, 17 where its kind may not stand here, then by its fields. An S line stands for an append to the timeline as it is then, and the first
 -- S opens that timeline; with 4 and 5 comes how far its start lies from the next tick. Lines are judged in order and the first refused one decides; a file that stops early, or in the middle of a line, is refused
 -- at the line that it lacks. A refused file leaves a zero record and a zeroed table. Paper: The file; Refusal numbers, and the orders below the table.
-use Rattle.std.specs.Prelude.{ℕ, ◌+◌, ◌-◌, ◌*◌, ◌^◌, Bool, false, cond, not, ◌&&◌, ◌||◌, List, [], ◌∷◌, map, eqb, leb, ltb, length, replicate}
+use Rattle.std.specs.Prelude.{Option, Some, None, ℕ, ◌+◌, ◌-◌, ◌*◌, ◌^◌, Bool, false, cond, not, ◌&&◌, ◌||◌, List, [], ◌∷◌, map, eqb, leb, ltb, length, replicate}
 use Rattle.units.specs.declared.Tick.{Tick}
 use Rattle.units.specs.Limits.{largest_tick, largest_number}
 use Rattle.window.specs.declared.Head.{Head}
 use Rattle.agreement.specs.declared.Record.{Record}
 use Rattle.timeline.specs.Opening.{zero_record}
 use Rattle.frames.specs.declared.Frame.{Frame}
-use Rattle.frames.specs.declared.Frame.TheVariants.{Head as HeadFrame, S, End, Clock, Bad}
+use Rattle.frames.specs.declared.Frame.TheVariants.{Head as HeadFrame, S, End, Clock}
 use Rattle.frames.specs.declared.SFields.{SFields}
 use Rattle.frames.specs.Frames.{frame_of}
 use Rattle.file.specs.Lines.{lines_of, rest_of}
@@ -51,12 +51,12 @@ pub data Place : Type 0 where
   after_end : Place
 
 -- the kinds of line that a file has: 1 is a head, of kind 01 or 05, 2 an S, 3 an end; and 0 is none of them
-abbrev pub line_kind : Frame → ℕ
-line_kind (HeadFrame x) = 1
-line_kind (S s) = 2
-line_kind (End n) = 3
-line_kind (Clock c) = 0
-line_kind Bad = 0
+abbrev pub line_kind : Option Frame → ℕ
+line_kind (Some (HeadFrame x)) = 1
+line_kind (Some (S s)) = 2
+line_kind (Some (End n)) = 3
+line_kind (Some (Clock c)) = 0
+line_kind None = 0
 
 -- after the end nothing may stand any more
 abbrev pub may_stand : Place → List ℕ
@@ -124,62 +124,62 @@ end_rows x n = (not (eqb n x.count), 17) ∷ []
 abbrev pub stop_rows : Sofar → List ℕ → List (Bool × ℕ)
 stop_rows x rest = (ltb 0 (length (may_stand x.place)), 16) ∷ (ltb 0 (length rest), 16) ∷ []
 
-abbrev pub field_rows : List ℕ → Sofar → Frame → List (Bool × ℕ)
-field_rows came x (HeadFrame h) = head_rows (head_in h)
-field_rows came x (S s) = s_rows came x s
-field_rows came x (End n) = end_rows x n
-field_rows came x (Clock c) = []
-field_rows came x Bad = []
+abbrev pub field_rows : List ℕ → Sofar → Option Frame → List (Bool × ℕ)
+field_rows came x (Some (HeadFrame h)) = head_rows (head_in h)
+field_rows came x (Some (S s)) = s_rows came x s
+field_rows came x (Some (End n)) = end_rows x n
+field_rows came x (Some (Clock c)) = []
+field_rows came x None = []
 
 -- every line: 16, then 17, then its fields
-abbrev pub line_rows : List ℕ → Sofar → Frame → List (Bool × ℕ)
+abbrev pub line_rows : List ℕ → Sofar → Option Frame → List (Bool × ℕ)
 line_rows came x f =
     (not (among (line_kind f) (1 ∷ 2 ∷ 3 ∷ [])) || eqb (length (may_stand x.place)) 0, 16) ∷
     (not (among (line_kind f) (may_stand x.place)), 17) ∷
     field_rows came x f
 
 -- the distance that comes with a line's number: that of an S line's start from the next tick of the timeline that it is judged on
-abbrev pub line_distance : List ℕ → Sofar → Frame → ℕ → ℕ
-line_distance came x (S s) number =
+abbrev pub line_distance : List ℕ → Sofar → Option Frame → ℕ → ℕ
+line_distance came x (Some (S s)) number =
     let next = (timeline_for came x s).rec.next.0 in
     distance_with number (start_of next s - next) (next - start_of next s)
-line_distance came x (HeadFrame h) number = 0
-line_distance came x (End n) number = 0
-line_distance came x (Clock c) number = 0
-line_distance came x Bad number = 0
+line_distance came x (Some (HeadFrame h)) number = 0
+line_distance came x (Some (End n)) number = 0
+line_distance came x (Some (Clock c)) number = 0
+line_distance came x None number = 0
 
 -- ---- the whole file
 
 -- what a line that is not refused leaves: an S line its append
-abbrev pub taking : List ℕ → Sofar → Frame → Sofar
-taking came x (HeadFrame h) = record { place = after_head; head = head_in h; count = 0; timeline = x.timeline }
-taking came x (S s) =
+abbrev pub taking : List ℕ → Sofar → Option Frame → Sofar
+taking came x (Some (HeadFrame h)) = record { place = after_head; head = head_in h; count = 0; timeline = x.timeline }
+taking came x (Some (S s)) =
     let y = timeline_for came x s in
     record { place = cond (negative s) after_negative after_s; head = x.head; count = x.count + 1; timeline = after y (call_of y s) }
-taking came x (End n) = record { place = after_end; head = x.head; count = x.count; timeline = x.timeline }
-taking came x (Clock c) = x
-taking came x Bad = x
+taking came x (Some (End n)) = record { place = after_end; head = x.head; count = x.count; timeline = x.timeline }
+taking came x (Some (Clock c)) = x
+taking came x None = x
 
 -- what reading comes to: the number, 0 where the file is accepted; the refused line, or 0; the distance, or 0; the record and the table
-pub record Result : Type 0 where
+pub record FileResult : Type 0 where
   pub number : ℕ
   pub line : ℕ
   pub distance : ℕ
   pub rec : Record
   pub words : List ℕ
 
-abbrev pub accepted : State → Result
+abbrev pub accepted : State → FileResult
 accepted x = record { number = 0; line = 0; distance = 0; rec = x.rec; words = x.words }
 
-abbrev pub refused_at : List ℕ → ℕ → ℕ → ℕ → Result
+abbrev pub refused_at : List ℕ → ℕ → ℕ → ℕ → FileResult
 refused_at came line number distance = record { number = number; line = line; distance = distance; rec = zero_record; words = replicate (length came) 0 }
 
 -- a line that has the number 0 is taken; any other number decides
-abbrev pub unless_refused : List ℕ → ℕ → ℕ → ℕ → Result → Result
+abbrev pub unless_refused : List ℕ → ℕ → ℕ → ℕ → FileResult → FileResult
 unless_refused came line number distance on = cond (eqb number 0) on (refused_at came line number distance)
 
 -- the lines from the given one on, where `rest` stands behind the last feed
-unfoldable pub judged : List ℕ → Sofar → ℕ → List Frame → List ℕ → Result
+unfoldable pub judged : List ℕ → Sofar → ℕ → List (Option Frame) → List ℕ → FileResult
 judged came x line [] rest = unless_refused came line (lowest (stop_rows x rest)) 0 (accepted x.timeline)
 judged came x line (f ∷ fs) rest =
     let number = lowest (line_rows came x f) in
@@ -189,5 +189,5 @@ judged came x line (f ∷ fs) rest =
 abbrev pub beginning : List ℕ → Sofar
 beginning came = record { place = at_first; head = zero_record.head; count = 0; timeline = record { rec = zero_record; words = came } }
 
-abbrev pub judged_file : List ℕ → List ℕ → Result
+abbrev pub judged_file : List ℕ → List ℕ → FileResult
 judged_file bytes came = judged came (beginning came) 1 (map frame_of (lines_of bytes)) (rest_of bytes)

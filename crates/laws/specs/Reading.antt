@@ -2,12 +2,11 @@
 -- negative r stands on the last S only, and the opening and every append that the S lines stand for are accepted. Reading is then just that opening
 -- and those appends. In every case the number, the line, the distance, the record and the table are those that the rows of Lines give.
 -- Paper: The file; Refusal numbers.
-use Rattle.std.specs.Prelude.{ℕ, ◌+◌, ◌^◌, ◌≤◌, ◌<◌, ◌≡◌, List, [], ◌∷◌, ◌++◌, map, length}
+use Rattle.std.specs.Prelude.{Ok, ℕ, ◌+◌, ◌^◌, ◌≤◌, ◌<◌, ◌≡◌, List, [], ◌∷◌, ◌++◌, map, length}
 use Rattle.units.specs.Exactly.{ExactlyWhen}
 use Rattle.window.specs.Ticks.{LeastCount}
 use Rattle.window.specs.declared.Head.{Head}
-use Rattle.keeping.specs.declared.Outcome.TheVariants.{Accepted}
-use Rattle.keeping.specs.Keeping.{outcome_number, outcome_distance}
+use Rattle.agreement.specs.Numbers.{answer_distance, answer_number}
 use Rattle.timeline.specs.Opening.{open_answer}
 use Rattle.frames.specs.declared.Frame.{Frame}
 use Rattle.frames.specs.declared.Frame.TheVariants.{Head as HeadFrame, S, End}
@@ -57,7 +56,7 @@ StandFor x (s ∷ ss) (c ∷ cs) = StandsFor x s c × StandFor (after x c) ss cs
 -- every call is accepted
 abbrev pub AllAccepted : State → List Call → Type 0
 AllAccepted x [] = Unit {0}
-AllAccepted x (c ∷ cs) = (outcome_of x c ≡ Accepted) × AllAccepted (after x c) cs
+AllAccepted x (c ∷ cs) = (outcome_of x c ≡ Ok tt) × AllAccepted (after x c) cs
 
 -- the timeline that a file opens, in a table that came with the words `came`: its first tick is where the first S starts
 abbrev pub opening_of : Head → SFields → List ℕ → State
@@ -72,7 +71,7 @@ pub record ReadsAs (bytes came : List ℕ) (x : HeadLine) (s : SFields) (ss : Li
   -- no S stands after a negative r
   pub last : NegativeLast (s ∷ ss)
   -- the opening at the first S is accepted
-  pub opens : (open_answer (head_in x) (opening_tick s)).outcome ≡ Accepted
+  pub opens : (open_answer (head_in x) (opening_tick s)).outcome ≡ Ok tt
   -- the S lines stand for these appends to it
   pub stand : StandFor (opening_of (head_in x) s came) (s ∷ ss) cs
   -- and each of them is accepted
@@ -86,10 +85,10 @@ IsFile bytes came = (x : HeadLine) × (s : SFields) × (ss : List SFields) × (c
 
 pub record ReadingRight : Type 0 where
   -- bytes are accepted exactly when they are a file
-  pub accepted : (bytes came : List ℕ) → ExactlyWhen ((read_answer bytes came).outcome ≡ Accepted) (IsFile bytes came)
+  pub accepted : (bytes came : List ℕ) → ExactlyWhen ((read_answer bytes came).outcome ≡ Ok tt) (IsFile bytes came)
   -- reading is opening plus appends: the record is theirs, and the line is 0
   pub answer : (bytes came : List ℕ) (x : HeadLine) (s : SFields) (ss : List SFields) (cs : List Call) → ReadsAs bytes came x s ss cs →
-      read_answer bytes came ≡ record { outcome = Accepted; rec = (after_calls (opening_of (head_in x) s came) cs).rec; line = 0 }
+      read_answer bytes came ≡ record { outcome = Ok tt; rec = (after_calls (opening_of (head_in x) s came) cs).rec; line = 0 }
   -- and so is the table
   pub table : (bytes came : List ℕ) (x : HeadLine) (s : SFields) (ss : List SFields) (cs : List Call) → ReadsAs bytes came x s ss cs →
       read_table bytes came ≡ (after_calls (opening_of (head_in x) s came) cs).words
@@ -99,14 +98,14 @@ pub record ReadingRight : Type 0 where
   pub holds : (bytes came : List ℕ) (x : HeadLine) (s : SFields) (ss : List SFields) (cs : List Call) → ReadsAs bytes came x s ss cs →
       Holds (head_in x) (opening_tick s) (length came) (record { rec = (read_answer bytes came).rec; words = read_table bytes came }) (all_accepted (opening_of (head_in x) s came) cs) 0
   -- for any bytes and any table the number is the one of the first refused line, by its rows, and 0 where none is
-  pub number : (bytes came : List ℕ) → outcome_number (read_answer bytes came).outcome ≡ (judged_file bytes came).number
+  pub number : (bytes came : List ℕ) → answer_number (read_answer bytes came).outcome ≡ (judged_file bytes came).number
   -- the line is that line, a missing one where the file stops, and 0 where the file is accepted
   pub line : (bytes came : List ℕ) → (read_answer bytes came).line ≡ (judged_file bytes came).line
   -- the distance is that of this line's start from the next tick, as it was then
-  pub distance : (bytes came : List ℕ) → outcome_distance (read_answer bytes came).outcome ≡ (judged_file bytes came).distance
+  pub distance : (bytes came : List ℕ) → answer_distance (read_answer bytes came).outcome ≡ (judged_file bytes came).distance
   -- the record is zero where the file is refused
   pub rec : (bytes came : List ℕ) → (read_answer bytes came).rec ≡ (judged_file bytes came).rec
   -- and the table is zeroed then
   pub words : (bytes came : List ℕ) → read_table bytes came ≡ (judged_file bytes came).words
   -- no file is refused with 2
-  pub never_two : (bytes came : List ℕ) → outcome_number (read_answer bytes came).outcome ≡ 2 → ⊥
+  pub never_two : (bytes came : List ℕ) → answer_number (read_answer bytes came).outcome ≡ 2 → ⊥

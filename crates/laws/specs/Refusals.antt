@@ -18,7 +18,7 @@ use Rattle.runs.specs.Words.{capacity}
 use Rattle.runs.specs.Encoding.{needs_run}
 use Rattle.agreement.specs.declared.Record.{Record}
 use Rattle.agreement.specs.Agreement.{agrees}
-use Rattle.keeping.specs.Keeping.{unspent, outcome_number, outcome_distance}
+use Rattle.keeping.specs.Keeping.{unspent}
 use Rattle.keeping.specs.Append.{given}
 use Rattle.timeline.specs.Opening.{open_answer}
 use Rattle.timeline.specs.Appending.{append_answer}
@@ -26,12 +26,11 @@ use Rattle.timeline.specs.Trimming.{trim_answer}
 use Rattle.timeline.specs.Pair.{pair_answer}
 use Rattle.answers.specs.Judgement.{verdict_at, verdict_whole}
 use Rattle.answers.specs.Edge.{covered_edge}
-use Rattle.answers.specs.Numbers.{verdict_number, edge_number}
+use Rattle.agreement.specs.Numbers.{answer_distance, answer_number}
 use Rattle.lookups.specs.Available.{availability_in, available_in}
 use Rattle.lookups.specs.Stamps.{full_tick_in}
 use Rattle.lookups.specs.Spans.{touching_words}
-use Rattle.lookups.specs.Numbers.{availability_number, available_number, touching_number, full_tick_number}
-use Rattle.writing.specs.Writing.{file_for, write_answer, write_number}
+use Rattle.writing.specs.Writing.{file_for, write_answer}
 
 -- the number of the first row whose condition holds, 0 where none does
 abbrev pub lowest : List (Bool × ℕ) → ℕ
@@ -142,31 +141,31 @@ write_rows rec ws room = (not (agrees rec ws), 2) ∷ (eqb rec.used 0, 12) ∷ (
 
 -- the table of every call but those that read a file
 pub record Refusals : Type 0 where
-  pub opening : (h : Head) (t : Tick) → outcome_number (open_answer h t).outcome ≡ lowest (open_rows h t)
+  pub opening : (h : Head) (t : Tick) → answer_number (open_answer h t).outcome ≡ lowest (open_rows h t)
   pub append : (rec : Record) (ws : List ℕ) (start : WideTick) (d n : ℕ) → d ≤ largest_span →
-      outcome_number (append_answer rec ws (tick_standing start rec.next) d n).outcome ≡ lowest (append_tick_rows rec ws start d n)
+      answer_number (append_answer rec ws (tick_standing start rec.next) d n).outcome ≡ lowest (append_tick_rows rec ws start d n)
   pub append_stamp : (rec : Record) (ws : List ℕ) (stamp : Stamp) (d n : ℕ) → d ≤ largest_span →
-      outcome_number (append_answer rec ws (stamp_standing stamp rec.next) d n).outcome ≡ lowest (append_stamp_rows rec ws stamp d n)
+      answer_number (append_answer rec ws (stamp_standing stamp rec.next) d n).outcome ≡ lowest (append_stamp_rows rec ws stamp d n)
   -- the distance of a full tick is the difference, and that of a stamp the difference modulo 2^32
   pub append_distance : (rec : Record) (ws : List ℕ) (start : WideTick) (d n : ℕ) →
       let o = (append_answer rec ws (tick_standing start rec.next) d n).outcome in
-      outcome_distance o ≡ distance_with (outcome_number o) (start.0 - rec.next.0) (rec.next.0 - start.0)
+      answer_distance o ≡ distance_with (answer_number o) (start.0 - rec.next.0) (rec.next.0 - start.0)
   pub stamp_distance : (rec : Record) (ws : List ℕ) (stamp : Stamp) (d n : ℕ) → stamp.0 < 2 ^ 32 →
       let o = (append_answer rec ws (stamp_standing stamp rec.next) d n).outcome in
-      outcome_distance o ≡ distance_with (outcome_number o) (less32 stamp.0 rec.next.0) (less32 rec.next.0 stamp.0)
+      answer_distance o ≡ distance_with (answer_number o) (less32 stamp.0 rec.next.0) (less32 rec.next.0 stamp.0)
   -- an append and then a trim in one call
   pub append_trim : (rec : Record) (ws : List ℕ) (stamp : Stamp) (d n : ℕ) (c : WideMillis) → d ≤ largest_span →
-      outcome_number (pair_answer rec ws (stamp_standing stamp rec.next) d n c).outcome ≡ lowest (pair_rows rec ws stamp d n c)
+      answer_number (pair_answer rec ws (stamp_standing stamp rec.next) d n c).outcome ≡ lowest (pair_rows rec ws stamp d n c)
   pub pair_distance : (rec : Record) (ws : List ℕ) (stamp : Stamp) (d n : ℕ) (c : WideMillis) → stamp.0 < 2 ^ 32 →
       let o = (pair_answer rec ws (stamp_standing stamp rec.next) d n c).outcome in
-      outcome_distance o ≡ distance_with (outcome_number o) (less32 stamp.0 rec.next.0) (less32 rec.next.0 stamp.0)
-  pub trim : (rec : Record) (ws : List ℕ) (c : WideMillis) → outcome_number (trim_answer rec ws c).outcome ≡ lowest (trim_rows rec ws c)
-  pub verdict : (rec : Record) (ws : List ℕ) (c : WideMillis) → verdict_number (verdict_at rec ws c) ≡ lowest (verdict_rows rec ws c)
-  pub verdict_whole_lem : (rec : Record) (ws : List ℕ) → verdict_number (verdict_whole rec ws) ≡ lowest (whole_rows rec ws)
-  pub availability : (rec : Record) (ws : List ℕ) (n : WideNumber) → availability_number (availability_in rec ws n) ≡ lowest (availability_rows rec ws n)
+      answer_distance o ≡ distance_with (answer_number o) (less32 stamp.0 rec.next.0) (less32 rec.next.0 stamp.0)
+  pub trim : (rec : Record) (ws : List ℕ) (c : WideMillis) → answer_number (trim_answer rec ws c).outcome ≡ lowest (trim_rows rec ws c)
+  pub verdict : (rec : Record) (ws : List ℕ) (c : WideMillis) → answer_number (verdict_at rec ws c) ≡ lowest (verdict_rows rec ws c)
+  pub verdict_whole_lem : (rec : Record) (ws : List ℕ) → answer_number (verdict_whole rec ws) ≡ lowest (whole_rows rec ws)
+  pub availability : (rec : Record) (ws : List ℕ) (n : WideNumber) → answer_number (availability_in rec ws n) ≡ lowest (availability_rows rec ws n)
   pub available_at : (rec : Record) (ws : List ℕ) (n : WideNumber) (c : WideMillis) →
-      available_number (available_in rec ws n c) ≡ lowest (available_rows rec ws n c)
-  pub full_tick_lem : (rec : Record) (ws : List ℕ) (stamp : Stamp) → full_tick_number (full_tick_in rec ws stamp) ≡ lowest (full_tick_rows rec ws)
-  pub touching : (rec : Record) (ws : List ℕ) (a b : WideTick) → touching_number (touching_words rec ws a b) ≡ lowest (touching_rows rec ws a b)
-  pub covered_edge_lem : (rec : Record) (ws : List ℕ) → edge_number (covered_edge rec ws) ≡ lowest (edge_rows rec ws)
-  pub write : (rec : Record) (ws : List ℕ) (room : ℕ) → write_number (write_answer rec ws room) ≡ lowest (write_rows rec ws room)
+      answer_number (available_in rec ws n c) ≡ lowest (available_rows rec ws n c)
+  pub full_tick_lem : (rec : Record) (ws : List ℕ) (stamp : Stamp) → answer_number (full_tick_in rec ws stamp) ≡ lowest (full_tick_rows rec ws)
+  pub touching : (rec : Record) (ws : List ℕ) (a b : WideTick) → answer_number (touching_words rec ws a b) ≡ lowest (touching_rows rec ws a b)
+  pub covered_edge_lem : (rec : Record) (ws : List ℕ) → answer_number (covered_edge rec ws) ≡ lowest (edge_rows rec ws)
+  pub write : (rec : Record) (ws : List ℕ) (room : ℕ) → answer_number (write_answer rec ws room) ≡ lowest (write_rows rec ws room)

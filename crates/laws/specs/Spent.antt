@@ -3,7 +3,7 @@
 -- there or not: of what is kept and what an append gives, exactly those references stay that are still needed at the greatest
 -- clock, and the others are counted as dropped; a trim at an earlier clock changes nothing.
 -- Paper: Units; Record and table; Window, needed, spent; Append and trim.
-use Rattle.std.specs.Prelude.{ℕ, suc, ◌+◌, ◌-◌, ◌*◌, ◌^◌, ◌≤◌, ◌<◌, max, ◌≡◌, true, false, List, ◌++◌, length, get_or}
+use Rattle.std.specs.Prelude.{Ok, ℕ, suc, ◌+◌, ◌-◌, ◌*◌, ◌^◌, ◌≤◌, ◌<◌, max, ◌≡◌, true, false, List, ◌++◌, length, get_or}
 use Rattle.units.specs.Exactly.{ExactlyWhen}
 use Rattle.units.specs.declared.WideMillis.{WideMillis}
 use Rattle.units.specs.declared.standing.Standing.{Standing}
@@ -18,7 +18,6 @@ use Rattle.runs.specs.declared.Run.{Run}
 use Rattle.runs.specs.Words.{run_at, last_run, capacity, run_end, runs_of, total_count}
 use Rattle.agreement.specs.declared.Record.{Record}
 use Rattle.agreement.specs.Agreement.{kept, agrees}
-use Rattle.keeping.specs.declared.Outcome.TheVariants.{Accepted}
 use Rattle.keeping.specs.Append.{given}
 use Rattle.timeline.specs.Appending.{append_outcome}
 use Rattle.timeline.specs.Trimming.{trim_outcome, trim_answer, trim_table}
@@ -95,16 +94,16 @@ pub record OnlySpent : Type 0 where
   -- record and table agree exactly when the paper's list holds
   pub agree : (rec : Record) (ws : List ℕ) → ExactlyWhen (agrees rec ws ≡ true) (Agreeing rec ws)
   -- an accepted trim: of what is kept, what is still needed at the greater clock. Accepted and the next tick stay
-  pub trim : (s : State) (c : WideMillis) → trim_outcome s.rec s.words c ≡ Accepted →
+  pub trim : (s : State) (c : WideMillis) → trim_outcome s.rec s.words c ≡ Ok tt →
       Keeps s (after s (trim_at c)) (max s.rec.clock.0 c.0) (kept_by s)
-  pub trim_counts : (s : State) (c : WideMillis) → trim_outcome s.rec s.words c ≡ Accepted →
+  pub trim_counts : (s : State) (c : WideMillis) → trim_outcome s.rec s.words c ≡ Ok tt →
       ((after s (trim_at c)).rec.accepted ≡ s.rec.accepted) × ((after s (trim_at c)).rec.next ≡ s.rec.next)
   -- a trim at an earlier clock is accepted, and leaves the record and every word as they were
   pub trim_earlier : (rec : Record) (ws : List ℕ) (c : WideMillis) → agrees rec ws ≡ true → c.0 ≤ rec.clock.0 →
-      (trim_answer rec ws c ≡ record { outcome = Accepted; rec = rec }) × (trim_table rec ws c ≡ ws)
+      (trim_answer rec ws c ≡ record { outcome = Ok tt; rec = rec }) × (trim_table rec ws c ≡ ws)
   -- an accepted append: of what is kept and what is given, what is still needed at the greatest clock. All that is given is
   -- counted as accepted, and the next tick is where it ends
-  pub append : (s : State) (st : Standing) (d n : ℕ) → d ≤ largest_span → append_outcome s.rec s.words st d n ≡ Accepted →
+  pub append : (s : State) (st : Standing) (d n : ℕ) → d ≤ largest_span → append_outcome s.rec s.words st d n ≡ Ok tt →
       Keeps s (append_to s st d n) s.rec.clock.0 (kept_by s ++ given s.rec d n)
-  pub append_counts : (s : State) (st : Standing) (d n : ℕ) → append_outcome s.rec s.words st d n ≡ Accepted →
+  pub append_counts : (s : State) (st : Standing) (d n : ℕ) → append_outcome s.rec s.words st d n ≡ Ok tt →
       ((append_to s st d n).rec.accepted ≡ s.rec.accepted + n) × ((append_to s st d n).rec.next.0 ≡ s.rec.next.0 + d * n)

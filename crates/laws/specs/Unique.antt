@@ -2,6 +2,10 @@
 -- it allows for one input are equal. Said over the very contracts that the check proves. Of a function `f` of a crate, `f.Reads.Asked` is
 -- what its `requires` asks of the arguments, and `f.Reads.Learnt` what its `ensures` says of the arguments, the result, and the
 -- parameters when the call ends. Paper: What a statement must leave no room for.
+use denote.RattleType.{RattleType}
+use denote.Param.Laws.{Laws}
+use Rattle.runs.specs.declared.walk.Runs.{Runs}
+use Rattle.runs.specs.Walk.{runs_left}
 use Rattle.std.specs.Prelude.{◌≡◌}
 use Rattle.std.specs.Borrow.{Bor, MutBor}
 use Rattle.units.proofs as units
@@ -100,6 +104,10 @@ module _ {K A X E : Type 0} where
 abbrev pub OnePart : {K A X E : Type 0} → (K → A → Bor X → E → Type 0) → Type 0
 OnePart {K} {A} {X} {E} said = (κs : K) (a : A) (x y : Bor X) (e f : E) → said κs a x e → said κs a y f → x.now ≡ y.now
 
+-- and for a walk over runs, by the runs that it has yet to come to
+abbrev pub OneWalk : {K A E : Type 0} → (K → A → Runs → E → Type 0) → Type 0
+OneWalk {K} {A} {E} said = (κs : K) (a : A) (x y : Runs) (e f : E) → said κs a x e → said κs a y f → runs_left x ≡ runs_left y
+
 -- an entry point that lends nothing to change, and one that does
 pub record Entry {K A X E : Type 0} (asked : K → A → Type 0) (said : K → A → X → E → Type 0) : Type 0 where
   pub any : AnyInput asked
@@ -130,19 +138,12 @@ pub record Entries : Type 0 where
   pub verdict_whole_lem : Entry answers.verdicts.verdict_whole.Reads.Asked answers.verdicts.verdict_whole.Reads.Learnt
   pub percent : Entry answers.shares.percent.Reads.Asked answers.shares.percent.Reads.Learnt
   pub verdict_percent_lem : Entry answers.Verdict.percent.Reads.Asked answers.Verdict.percent.Reads.Learnt
-  pub percent_number_lem : Entry answers.Percent.number.Reads.Asked answers.Percent.number.Reads.Learnt
   pub covered_edge_lem : Entry answers.edges.covered_edge.Reads.Asked answers.edges.covered_edge.Reads.Learnt
-  pub verdict_number_lem : Entry answers.Verdict.number.Reads.Asked answers.Verdict.number.Reads.Learnt
-  pub edge_number_lem : Entry answers.CoveredEdge.number.Reads.Asked answers.CoveredEdge.number.Reads.Learnt
   -- lookups
   pub availability : Entry lookups.times.availability.Reads.Asked lookups.times.availability.Reads.Learnt
   pub available_at : Entry lookups.times.available_at.Reads.Asked lookups.times.available_at.Reads.Learnt
   pub full_tick_lem : Entry lookups.stamps.full_tick.Reads.Asked lookups.stamps.full_tick.Reads.Learnt
   pub touching_words_lem : Entry lookups.spans.touching_words.Reads.Asked lookups.spans.touching_words.Reads.Learnt
-  pub availability_number_lem : Entry lookups.Availability.number.Reads.Asked lookups.Availability.number.Reads.Learnt
-  pub available_number_lem : Entry lookups.AvailableAt.number.Reads.Asked lookups.AvailableAt.number.Reads.Learnt
-  pub full_tick_number_lem : Entry lookups.stamps.FullTick.number.Reads.Asked lookups.stamps.FullTick.number.Reads.Learnt
-  pub touching_number_lem : Entry lookups.Touching.number.Reads.Asked lookups.Touching.number.Reads.Learnt
   -- the part handed back, by its words
   pub touching_any : AnyInput lookups.spans.touching.Reads.Asked
   pub touching : OnePart lookups.spans.touching.Reads.Learnt
@@ -151,6 +152,8 @@ pub record Entries : Type 0 where
   pub line_end : Entry file.line_end.Reads.Asked file.line_end.Reads.Learnt
   pub line_none : Entry file.LineSoFar.none.Reads.Asked file.LineSoFar.none.Reads.Learnt
   pub line_len : Entry file.LineSoFar.len.Reads.Asked file.LineSoFar.len.Reads.Learnt
+  pub line_first_any : AnyInput file.LineSoFar.first_bytes.Reads.Asked
+  pub line_first : OnePart file.LineSoFar.first_bytes.Reads.Learnt
   pub line_more : Entry file.LineSoFar.more.Reads.Asked file.LineSoFar.more.Reads.Learnt
   pub line_too_long : Entry file.LineSoFar.too_long.Reads.Asked file.LineSoFar.too_long.Reads.Learnt
   pub begins : Entry file.begin.Reads.Asked file.begin.Reads.Learnt
@@ -159,7 +162,6 @@ pub record Entries : Type 0 where
   pub finish : Lending file.finish.Reads.Asked file.finish.Reads.Learnt table
   -- writing
   pub write : Lending writing.write.Reads.Asked writing.write.Reads.Learnt out
-  pub write_number_lem : Entry writing.WriteAnswer.number.Reads.Asked writing.WriteAnswer.number.Reads.Learnt
   -- wording
   pub put_line : Lending wording.put_line.Reads.Asked wording.put_line.Reads.Learnt first
   -- report
@@ -184,13 +186,19 @@ pub record Entries : Type 0 where
   pub c_read : Lending c.flonterri_read.Reads.Asked c.flonterri_read.Reads.Learnt record_table_out
   pub c_write : Lending c.flonterri_write.Reads.Asked c.flonterri_write.Reads.Learnt bytes_and_out
   -- words
-  pub wrong_record_lem : Entry words.wrong_record.Reads.Asked words.wrong_record.Reads.Learnt
-  pub wrong_length_lem : Entry words.wrong_length.Reads.Asked words.wrong_length.Reads.Learnt
+  pub record_in_lem : Entry words.record_in.Reads.Asked words.record_in.Reads.Learnt
+  pub record_beside_lem : Entry words.record_beside.Reads.Asked words.record_beside.Reads.Learnt
+  pub words_of_verdict_lem : Entry words.showing.VerdictToldU645.words.Reads.Asked words.showing.VerdictToldU645.words.Reads.Learnt
+  pub words_of_availability_lem : Entry words.showing.AvailabilityToldI643.words.Reads.Asked words.showing.AvailabilityToldI643.words.Reads.Learnt
+  pub words_of_available_lem : Entry words.showing.BoolToldU641.words.Reads.Asked words.showing.BoolToldU641.words.Reads.Learnt
+  pub words_of_tick_lem : Entry words.showing.OptionTickToldU642.words.Reads.Asked words.showing.OptionTickToldU642.words.Reads.Learnt
+  pub words_of_touching_lem : Entry words.showing.WordsToldU642.words.Reads.Asked words.showing.WordsToldU642.words.Reads.Learnt
+  pub words_of_edge_lem : Entry words.showing.OptionMillisToldU642.words.Reads.Asked words.showing.OptionMillisToldU642.words.Reads.Learnt
+  pub words_of_length_lem : Entry words.showing.UsizeToldU641.words.Reads.Asked words.showing.UsizeToldU641.words.Reads.Learnt
   -- keeping
-  pub outcome_number_lem : Entry keeping.Outcome.number.Reads.Asked keeping.Outcome.number.Reads.Learnt
-  pub outcome_distance_lem : Entry keeping.Outcome.distance.Reads.Asked keeping.Outcome.distance.Reads.Learnt
-  pub accepted : Entry keeping.accepted.Reads.Asked keeping.accepted.Reads.Learnt
-  pub refused : Entry keeping.refused.Reads.Asked keeping.refused.Reads.Learnt
+  pub accepted : Entry keeping.Changed.accepted.Reads.Asked keeping.Changed.accepted.Reads.Learnt
+  pub store_record : Lending keeping.Changed.store.Reads.Asked keeping.Changed.store.Reads.Learnt table
+  pub refused : Entry keeping.Changed.refused.Reads.Asked keeping.Changed.refused.Reads.Learnt
   -- agreement
   pub agrees : Entry agreement.Record.agrees.Reads.Asked agreement.Record.agrees.Reads.Learnt
   pub record_held_lem : Entry agreement.Record.held.Reads.Asked agreement.Record.held.Reads.Learnt
@@ -198,70 +206,81 @@ pub record Entries : Type 0 where
   pub is_passed_lem : Entry agreement.is_passed.Reads.Asked agreement.is_passed.Reads.Learnt
   pub refusal_number_lem : Entry agreement.refusal.Refusal.number.Reads.Asked agreement.refusal.Refusal.number.Reads.Learnt
   pub refusal_distance_lem : Entry agreement.refusal.Refusal.distance.Reads.Asked agreement.refusal.Refusal.distance.Reads.Learnt
+  -- runs
+  pub run_held_lem : Entry runs.Run.held.Reads.Asked runs.Run.held.Reads.Learnt
   -- window
   pub head_held_lem : Entry window.Head.held.Reads.Asked window.Head.held.Reads.Learnt
   pub head_new : Entry window.Head.new.Reads.Asked window.Head.new.Reads.Learnt
-  pub head_fields : Entry window.Head.fields.Reads.Asked window.Head.fields.Reads.Learnt
+  pub head_fields : Entry window.HeadFieldsFromHead.from.Reads.Asked window.HeadFieldsFromHead.from.Reads.Learnt
   -- frames and hex
   pub line_length_lem : Entry frames.line_length.Reads.Asked frames.line_length.Reads.Learnt
   pub read_line : Entry frames.read_line.Reads.Asked frames.read_line.Reads.Learnt
-  pub head_line_fields : Entry frames.HeadLine.fields.Reads.Asked frames.HeadLine.fields.Reads.Learnt
-  pub head_line_of : Entry frames.HeadLine.of.Reads.Asked frames.HeadLine.of.Reads.Learnt
+  pub head_line_fields : Entry frames.HeadFieldsFromHeadLine.from.Reads.Asked frames.HeadFieldsFromHeadLine.from.Reads.Learnt
+  pub head_line_of : Entry frames.HeadLineFromHeadFields.from.Reads.Asked frames.HeadLineFromHeadFields.from.Reads.Learnt
   pub are_digits_lem : Entry hex.are_digits.Reads.Asked hex.are_digits.Reads.Learnt
   pub write_digits_any : AnyInput hex.write_digits.Reads.Asked
   pub write_digits : OneLent hex.write_digits.Reads.Learnt first
   -- units
-  pub tick_held_lem : Entry units.Tick.held.Reads.Asked units.Tick.held.Reads.Learnt
-  pub millis_held_lem : Entry units.Millis.held.Reads.Asked units.Millis.held.Reads.Learnt
-  pub timescale_held_lem : Entry units.Timescale.held.Reads.Asked units.Timescale.held.Reads.Learnt
-  pub span_held_lem : Entry units.Span.held.Reads.Asked units.Span.held.Reads.Learnt
-  pub number_held_lem : Entry units.Number.held.Reads.Asked units.Number.held.Reads.Learnt
-  pub tick_new : Entry units.Tick.new.Reads.Asked units.Tick.new.Reads.Learnt
-  pub millis_new : Entry units.Millis.new.Reads.Asked units.Millis.new.Reads.Learnt
-  pub timescale_new : Entry units.Timescale.new.Reads.Asked units.Timescale.new.Reads.Learnt
-  pub span_new : Entry units.Span.new.Reads.Asked units.Span.new.Reads.Learnt
-  pub number_new : Entry units.Number.new.Reads.Asked units.Number.new.Reads.Learnt
+  pub tick_held_lem : Entry units.limited.TickLimited.held.Reads.Asked units.limited.TickLimited.held.Reads.Learnt
+  pub millis_held_lem : Entry units.limited.MillisLimited.held.Reads.Asked units.limited.MillisLimited.held.Reads.Learnt
+  pub timescale_held_lem : Entry units.limited.TimescaleLimited.held.Reads.Asked units.limited.TimescaleLimited.held.Reads.Learnt
+  pub span_held_lem : Entry units.limited.SpanLimited.held.Reads.Asked units.limited.SpanLimited.held.Reads.Learnt
+  pub number_held_lem : Entry units.limited.NumberLimited.held.Reads.Asked units.limited.NumberLimited.held.Reads.Learnt
+  pub tick_new : Entry units.limited.TickLimited.new.Reads.Asked units.limited.TickLimited.new.Reads.Learnt
+  pub millis_new : Entry units.limited.MillisLimited.new.Reads.Asked units.limited.MillisLimited.new.Reads.Learnt
+  pub timescale_new : Entry units.limited.TimescaleLimited.new.Reads.Asked units.limited.TimescaleLimited.new.Reads.Learnt
+  pub span_new : Entry units.limited.SpanLimited.new.Reads.Asked units.limited.SpanLimited.new.Reads.Learnt
+  pub number_new : Entry units.limited.NumberLimited.new.Reads.Asked units.limited.NumberLimited.new.Reads.Learnt
+  pub tick_of : Entry units.limited.TickLimited.of.Reads.Asked units.limited.TickLimited.of.Reads.Learnt
+  pub tick_number : Entry units.limited.TickLimited.number.Reads.Asked units.limited.TickLimited.number.Reads.Learnt
+  pub millis_of : Entry units.limited.MillisLimited.of.Reads.Asked units.limited.MillisLimited.of.Reads.Learnt
+  pub millis_number : Entry units.limited.MillisLimited.number.Reads.Asked units.limited.MillisLimited.number.Reads.Learnt
+  pub timescale_of : Entry units.limited.TimescaleLimited.of.Reads.Asked units.limited.TimescaleLimited.of.Reads.Learnt
+  pub timescale_number : Entry units.limited.TimescaleLimited.number.Reads.Asked units.limited.TimescaleLimited.number.Reads.Learnt
+  pub span_of : Entry units.limited.SpanLimited.of.Reads.Asked units.limited.SpanLimited.of.Reads.Learnt
+  pub span_number : Entry units.limited.SpanLimited.number.Reads.Asked units.limited.SpanLimited.number.Reads.Learnt
+  pub number_of : Entry units.limited.NumberLimited.of.Reads.Asked units.limited.NumberLimited.of.Reads.Learnt
+  pub number_number : Entry units.limited.NumberLimited.number.Reads.Asked units.limited.NumberLimited.number.Reads.Learnt
   pub grain_between : Entry units.Grain.between.Reads.Asked units.Grain.between.Reads.Learnt
-  pub stamp_against : Entry units.Stamp.against.Reads.Asked units.Stamp.against.Reads.Learnt
+  pub stamp_against : Entry units.standing.StampStart.against.Reads.Asked units.standing.StampStart.against.Reads.Learnt
   pub stamp_full : Entry units.Stamp.full.Reads.Asked units.Stamp.full.Reads.Learnt
-  pub tick_against : Entry units.WideTick.against.Reads.Asked units.WideTick.against.Reads.Learnt
+  pub tick_against : Entry units.standing.WideTickStart.against.Reads.Asked units.standing.WideTickStart.against.Reads.Learnt
+
+-- the same of an answer of any kind T: its number and its distance, which ask only that what the answer borrows is there yet, and what
+-- is told of it, in n words of the kind W, where callers show that out has n. The other parameters are what W, n and T bring with them.
+pub record AnyAnswer : Type 2 where
+  pub any_number : (A : RattleType) (L : Laws A) → OneResult (agreement.number_of.Reads.Learnt A L)
+  pub any_distance : (A : RattleType) (L : Laws A) → OneResult (agreement.distance_of.Reads.Learnt A L)
+  pub any_told : (W : RattleType) (n : _) (T : RattleType) (LW : _) (F : _) (LT : _) (CW : _) (CT : _) (KW : _) (p : _) (G : _) (q : _) (KT : _) (r : _) →
+      OneResult (words.tell.Reads.Learnt W n T LW F LT CW CT KW p G q KT r)
+  pub any_told_words : (W : RattleType) (n : _) (T : RattleType) (LW : _) (F : _) (LT : _) (CW : _) (CT : _) (KW : _) (p : _) (G : _) (q : _) (KT : _) (r : _) →
+      OneLent (words.tell.Reads.Learnt W n T LW F LT CW CT KW p G q KT r) first
 
 -- the inner functions that are public: their callers show what they ask
 pub record Inner : Type 0 where
-  pub record_of : OneResult words.record_of.Reads.Learnt
   pub give_back : OneResult words.give_back.Reads.Learnt
   pub give_back_words : OneLent words.give_back.Reads.Learnt first
   pub give_appended : OneResult words.give_appended.Reads.Learnt
   pub give_appended_words : OneLent words.give_appended.Reads.Learnt record_and_out
   pub give_read : OneResult words.give_read.Reads.Learnt
   pub give_read_words : OneLent words.give_read.Reads.Learnt record_and_out
-  pub tell_verdict : OneResult words.tell_verdict.Reads.Learnt
-  pub tell_verdict_words : OneLent words.tell_verdict.Reads.Learnt first
-  pub tell_edge : OneResult words.tell_edge.Reads.Learnt
-  pub tell_edge_words : OneLent words.tell_edge.Reads.Learnt first
-  pub tell_availability : OneResult words.tell_availability.Reads.Learnt
-  pub tell_availability_words : OneLent words.tell_availability.Reads.Learnt first
-  pub tell_available : OneResult words.tell_available.Reads.Learnt
-  pub tell_available_words : OneLent words.tell_available.Reads.Learnt first
-  pub tell_full_tick : OneResult words.tell_full_tick.Reads.Learnt
-  pub tell_full_tick_words : OneLent words.tell_full_tick.Reads.Learnt first
-  pub tell_touching : OneResult words.tell_touching.Reads.Learnt
-  pub tell_touching_words : OneLent words.tell_touching.Reads.Learnt first
-  pub tell_written : OneResult words.tell_written.Reads.Learnt
-  pub tell_written_words : OneLent words.tell_written.Reads.Learnt first
   pub append_joined : OneResult keeping.append_joined.Reads.Learnt
   pub append_joined_words : OneLent keeping.append_joined.Reads.Learnt table
   pub count_passed_lem : OneResult keeping.count_passed.Reads.Learnt
   pub write_line : OneResult frames.write_line.Reads.Learnt
   pub write_line_words : OneLent frames.write_line.Reads.Learnt first
   pub number : OneResult hex.number.Reads.Learnt
-  pub before_end_lem : OneResult window.Head.before_end.Reads.Learnt
-  pub passed_ends : OneResult window.Head.passed_ends.Reads.Learnt
-  pub needed_at : OneResult window.Head.needed_at.Reads.Learnt
-  pub needed_whole : OneResult window.Head.needed_whole.Reads.Learnt
-  pub least_count_lem : OneResult window.Head.least_count.Reads.Learnt
+  pub before_end_lem : OneResult window.held.HeldHead.before_end.Reads.Learnt
+  pub passed_ends : OneResult window.held.HeldHead.passed_ends.Reads.Learnt
+  pub needed_at : OneResult window.held.HeldHead.needed_at.Reads.Learnt
+  pub needed_whole : OneResult window.held.HeldHead.needed_whole.Reads.Learnt
+  pub least_count_lem : OneResult window.held.HeldHead.least_count.Reads.Learnt
+  pub walk : OneWalk runs.walk.Runs.of.Reads.Learnt
   pub run_at : OneResult runs.table.run_at.Reads.Learnt
-  pub passed_in : OneResult runs.table.passed_in.Reads.Learnt
+  pub run_end_lem : OneResult runs.Run.end.Reads.Learnt
+  pub run_joins : OneResult runs.Run.joins.Reads.Learnt
+  pub run_reference : OneResult runs.Run.reference.Reads.Learnt
+  pub passed_by : OneResult runs.Run.passed_by.Reads.Learnt
   pub passed_upto_lem : OneResult runs.table.passed_upto.Reads.Learnt
   pub needs_run_lem : OneResult runs.table.needs_run.Reads.Learnt
   pub drop_front : OneResult runs.table.drop_front.Reads.Learnt

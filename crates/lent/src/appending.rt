@@ -19,10 +19,7 @@ pub fn append(
     ensures rec_after { rec.new ≡ (append_answer rec.old table.old (tick_standing start rec.old.next) duration count).rec }
     ensures table_after { table.new ≡ append_table rec.old table.old (tick_standing start rec.old.next) duration count }
 {
-    let came = *rec;
-    let changed = timeline::append(came, table, start, duration, count);
-    *rec = changed.rec;
-    changed.outcome
+    timeline::append(*rec, table, start, duration, count).store(rec)
 }
 
 // Appends references whose start is a 32-bit stamp.
@@ -37,8 +34,5 @@ pub fn append_stamp(
     ensures rec_after { rec.new ≡ (append_answer rec.old table.old (stamp_standing stamp rec.old.next) duration count).rec }
     ensures table_after { table.new ≡ append_table rec.old table.old (stamp_standing stamp rec.old.next) duration count }
 {
-    let came = *rec;
-    let changed = timeline::append_stamp(came, table, stamp, duration, count);
-    *rec = changed.rec;
-    changed.outcome
+    timeline::append_stamp(*rec, table, stamp, duration, count).store(rec)
 }

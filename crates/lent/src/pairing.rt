@@ -20,8 +20,5 @@ pub fn append_trim(
     ensures rec_after { rec.new ≡ (pair_answer rec.old table.old (stamp_standing stamp rec.old.next) duration count clock).rec }
     ensures table_after { table.new ≡ pair_table rec.old table.old (stamp_standing stamp rec.old.next) duration count clock }
 {
-    let came = *rec;
-    let changed = timeline::append_trim(came, table, stamp, duration, count, clock);
-    *rec = changed.rec;
-    changed.outcome
+    timeline::append_trim(*rec, table, stamp, duration, count, clock).store(rec)
 }

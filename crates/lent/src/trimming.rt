@@ -12,8 +12,5 @@ pub fn trim(rec: &mut Record, table: &mut [u64], clock: WideMillis) -> Outcome
     ensures rec_after { rec.new ≡ (trim_answer rec.old table.old clock).rec }
     ensures table_after { table.new ≡ trim_table rec.old table.old clock }
 {
-    let came = *rec;
-    let changed = timeline::trim(came, table, clock);
-    *rec = changed.rec;
-    changed.outcome
+    timeline::trim(*rec, table, clock).store(rec)
 }

@@ -23,8 +23,8 @@ use Rattle.agreement.specs.declared.refusal.Refusal.{Refusal}
 use Rattle.agreement.specs.declared.refusal.Refusal.TheVariants.{Disagreement, EmptySpan}
 use Rattle.agreement.specs.Agreement.{agrees}
 use Rattle.agreement.proofs.Agreeing.{agree_shaped}
-use Rattle.lookups.specs.declared.Touching.{Touching}
-use Rattle.lookups.specs.declared.Touching.TheVariants.{Words, Refused}
+use Rattle.std.specs.Prelude.{Err, Ok, Result}
+use Rattle.lookups.specs.declared.Words.{Words}
 use Rattle.lookups.specs.Spans.{touches, before_first, upto_last, touched_words, touching_words, part_of, passing, TouchingPart}
 use Rattle.lookups.proofs.Spanning.{first_runs, upto_most, before_upto}
 
@@ -232,26 +232,25 @@ record Named (rec : Record) (ws : List ℕ) (a b from to : ℕ) : Type 0 where
   some : a < b
   words : Spot (before_first (touches a b) (runs_of rec.used ws)) (upto_last (touches a b) (runs_of rec.used ws)) from to
 
-spot_of : (t : Run → Bool) (rs : List Run) (from to : ℕ) →
-    cond (eqb (upto_last t rs) 0) (Words 0 0) (Words (3 * before_first t rs) (3 * upto_last t rs)) ≡ Words from to → Spot (before_first t rs) (upto_last t rs) from to
-spot_of t rs from to = go (eqb (upto_last t rs) 0) refl
+spot_of : (t : Run → Bool) (rs : List Run) (w : Words) → cond (eqb (upto_last t rs) 0) (record { from = 0; to = 0 }) (record { from = 3 * before_first t rs; to = 3 * upto_last t rs }) ≡ w →
+    Spot (before_first t rs) (upto_last t rs) w.from w.to
+spot_of t rs w = go (eqb (upto_last t rs) 0) refl
   where
-    go : (s : Bool) → eqb (upto_last t rs) 0 ≡ s → cond s (Words 0 0) (Words (3 * before_first t rs) (3 * upto_last t rs)) ≡ Words from to →
-        Spot (before_first t rs) (upto_last t rs) from to
-    go true e q = nowhere (eqb-true (upto_last t rs) 0 e) (let i : 0 ≡ from = cc in sym i) (let i : 0 ≡ to = cc in sym i)
+    go : (s : Bool) → eqb (upto_last t rs) 0 ≡ s → cond s (record { from = 0; to = 0 }) (record { from = 3 * before_first t rs; to = 3 * upto_last t rs }) ≡ w →
+        Spot (before_first t rs) (upto_last t rs) w.from w.to
+    go true e q = nowhere (eqb-true (upto_last t rs) 0 e) (sym (ap (λ (x : Words). x.from) q)) (sym (ap (λ (x : Words). x.to) q))
     go false e q =
-        spot (before_upto t rs (eqb-false (upto_last t rs) 0 e)) (let i : 3 * before_first t rs ≡ from = cc in sym i)
-        (let i : 3 * upto_last t rs ≡ to = cc in sym i)
+        spot (before_upto t rs (eqb-false (upto_last t rs) 0 e)) (sym (ap (λ (x : Words). x.from) q)) (sym (ap (λ (x : Words). x.to) q))
 
 module _ (rec : Record) (ws : List ℕ) (a b : WideTick) where
-  named : (from to : ℕ) → touching_words rec ws a b ≡ Words from to → Named rec ws a.0 b.0 from to
+  named : (from to : ℕ) → touching_words rec ws a b ≡ Ok (record { from = from; to = to }) → Named rec ws a.0 b.0 from to
   named from to = go (agrees rec ws) refl (ltb a.0 b.0) refl
     where
       go : (s : Bool) → agrees rec ws ≡ s → (t : Bool) → ltb a.0 b.0 ≡ t →
-          cond s (cond t (touched_words a.0 b.0 (runs_of rec.used ws)) (Refused EmptySpan)) (Refused Disagreement) ≡ Words from to →
+          cond s (cond t (Ok (touched_words a.0 b.0 (runs_of rec.used ws))) (Err EmptySpan)) (Err Disagreement) ≡ Ok (record { from = from; to = to }) →
           Named rec ws a.0 b.0 from to
       go true e true f q =
-          record { agreed = e; some = ltb-true a.0 b.0 f; words = spot_of (touches a.0 b.0) (runs_of rec.used ws) from to q }
+          record { agreed = e; some = ltb-true a.0 b.0 f; words = spot_of (touches a.0 b.0) (runs_of rec.used ws) (record { from = from; to = to }) (let i : touched_words a.0 b.0 (runs_of rec.used ws) ≡ record { from = from; to = to } = cc in i) }
       go true e false f q = let z : ◌≡◌ {A = ℕ} 0 1 = cc in let y : ⊥ = omega arith in absurd y
       go false e t f q = let z : ◌≡◌ {A = ℕ} 0 1 = cc in let y : ⊥ = omega arith in absurd y
 
@@ -264,7 +263,7 @@ module _ (rec : Record) (ws : List ℕ) (a b : WideTick) where
   last_most : last ≤ rec.used
   last_most = omega (arith, upto_most (touches a.0 b.0) (runs_of rec.used ws), runs_length rec.used ws)
 
-  module _ (from to : ℕ) (q : touching_words rec ws a b ≡ Words from to) where
+  module _ (from to : ℕ) (q : touching_words rec ws a b ≡ Ok (record { from = from; to = to })) where
     within : (from ≤ to) × (to ≤ 3 * rec.used)
     within = go (named from to q).words
       where
@@ -278,7 +277,7 @@ module _ (rec : Record) (ws : List ℕ) (a b : WideTick) where
         sym (take-append-drop from ws) ∙
         ap (λ (r : List ℕ). take from ws ++ r)
         (sym (take-append-drop (to - from) (drop from ws)) ∙
-        ap₂ ◌++◌ (ap (λ (x : Touching). part_of x ws) (sym q)) (drop-drop (to - from) from ws ∙ ap (λ (k : ℕ). drop k ws) upto)) ∙
+        ap₂ ◌++◌ (ap (λ (x : Result Words Refusal). part_of x ws) (sym q)) (drop-drop (to - from) from ws ∙ ap (λ (k : ℕ). drop k ws) upto)) ∙
         sym (append_assoc (take from ws) (part_of (touching_words rec ws a b) ws) (drop to ws))
 
     module _ (j : ℕ) (l : j < rec.used) where
@@ -301,16 +300,16 @@ module _ (rec : Record) (ws : List ℕ) (a b : WideTick) where
                   inside_touches a.0 b.0 ws rec.used j l n.some (agree_shaped rec ws n.agreed) (omega (arith, h.0)) (omega (arith, h.1))
 
   module _ (agreed : agrees rec ws ≡ true) (some : a.0 < b.0) where
-    asked : touching_words rec ws a b ≡ touched_words a.0 b.0 (runs_of rec.used ws)
+    asked : touching_words rec ws a b ≡ Ok (touched_words a.0 b.0 (runs_of rec.used ws))
     asked =
-        ap₂ (λ s t. cond s (cond t (touched_words a.0 b.0 (runs_of rec.used ws)) (Refused EmptySpan)) (Refused Disagreement)) agreed
+        ap₂ (λ s t. cond s (cond t (Ok (touched_words a.0 b.0 (runs_of rec.used ws))) (Err EmptySpan)) (Err Disagreement)) agreed
         (lt-ltb a.0 b.0 some)
 
     runs : part_of (touching_words rec ws a b) ws ≡ words_of (passing (touches a.0 b.0) (runs_of rec.used ws))
     unfolding words_of t
-    runs = ap (λ (x : Touching). part_of x ws) asked ∙ go (eqb last 0) refl
+    runs = ap (λ (x : Result Words Refusal). part_of x ws) asked ∙ go (eqb last 0) refl
       where
-        go : (s : Bool) → eqb last 0 ≡ s → part_of (cond s (Words 0 0) (Words (3 * first) (3 * last))) ws ≡ words_of (passing (touches a.0 b.0) (runs_of rec.used ws))
+        go : (s : Bool) → eqb last 0 ≡ s → part_of (Ok (cond s (record { from = 0; to = 0 }) (record { from = 3 * first; to = 3 * last }))) ws ≡ words_of (passing (touches a.0 b.0) (runs_of rec.used ws))
         go true e = ap words_of (sym (none_pass (touches a.0 b.0) (runs_of rec.used ws) (eqb-true last 0 e)))
         go false e =
             let shape = agree_shaped rec ws agreed in
@@ -323,7 +322,7 @@ module _ (rec : Record) (ws : List ℕ) (a b : WideTick) where
   none : ((j : ℕ) → j < rec.used → touches a.0 b.0 (run_at ws (j * 3)) ≡ false) → part_of (touching_words rec ws a b) ws ≡ []
   none h = go (agrees rec ws) refl (ltb a.0 b.0) refl
     where
-      empty : agrees rec ws ≡ true → a.0 < b.0 → (s : Bool) → eqb last 0 ≡ s → part_of (cond s (Words 0 0) (Words (3 * first) (3 * last))) ws ≡ []
+      empty : agrees rec ws ≡ true → a.0 < b.0 → (s : Bool) → eqb last 0 ≡ s → part_of (Ok (cond s (record { from = 0; to = 0 }) (record { from = 3 * first; to = 3 * last }))) ws ≡ []
       empty e l true f = refl
       empty e l false f =
           let order : first < last = before_upto (touches a.0 b.0) (runs_of rec.used ws) (eqb-false last 0 f) in
@@ -333,13 +332,13 @@ module _ (rec : Record) (ws : List ℕ) (a b : WideTick) where
           (sym (inside_touches a.0 b.0 ws rec.used first used l (agree_shaped rec ws e) (omega arith) order) ∙ h first used))
 
       go : (s : Bool) → agrees rec ws ≡ s → (t : Bool) → ltb a.0 b.0 ≡ t →
-          part_of (cond s (cond t (touched_words a.0 b.0 (runs_of rec.used ws)) (Refused EmptySpan)) (Refused Disagreement)) ws ≡ []
+          part_of (cond s (cond t (Ok (touched_words a.0 b.0 (runs_of rec.used ws))) (Err EmptySpan)) (Err Disagreement)) ws ≡ []
       go true e true f = empty e (ltb-true a.0 b.0 f) (eqb last 0) refl
       go true e false f = refl
       go false e t f = refl
 
-  refused : (why : Refusal) → touching_words rec ws a b ≡ Refused why → part_of (touching_words rec ws a b) ws ≡ []
-  refused why e = ap (λ (x : Touching). part_of x ws) e
+  refused : (why : Refusal) → touching_words rec ws a b ≡ Err why → part_of (touching_words rec ws a b) ws ≡ []
+  refused why e = ap (λ (x : Result Words Refusal). part_of x ws) e
 
 pub touching_part : TouchingPart
 touching_part = record { runs = runs; within = within; place = place; inside = inside; none = none; refused = refused }

@@ -1,5 +1,5 @@
 -- References by their numbers: a number is found run by run, and a difference of numbers is a place in the list.
-use mathlib.Core.Path.{◌≡◌, refl, sym, ap, ap₂, subst⁻¹, ◌∙◌}
+use mathlib.Core.Path.{◌≡◌, refl, sym, ap, ap₂, subst, ◌∙◌}
 use mathlib.Core.Bool.{Bool, true, false, cond}
 use mathlib.Core.List.{List, [], ◌∷◌, ◌++◌, append-nil}
 use Prim.Native.Nat.{ℕ, zero, suc, ◌+◌, ◌-◌, ◌*◌, ◌≤◌, ◌<◌}
@@ -7,43 +7,38 @@ use native.Mathlib.Nat.{add-zero, add-suc, sub-zero}
 use native.Mathlib.Omega.{arith}
 use borrow.Author.Tests.{eqb-true, eqb-false, eq-eqb, ne_eqb, leb-false}
 use lib.Dec.{eqb}
-use lib.ListN.{length, drop}
+use lib.ListN.{length}
 use mir.Syntax.{w64}
 use mir.Val.{Fits}
 use Rattle.units.specs.declared.Number.{Number}
-use Rattle.units.specs.declared.NumberMade.{NumberMade}
-use Rattle.units.specs.declared.NumberMade.TheVariants as number
+use Rattle.std.specs.Prelude.{None, Option, Some}
+use Rattle.std.proofs.lemmas.Option.{none-some}
 use Rattle.units.specs.Limits.{largest_number, number_made}
 use Rattle.units.proofs.Makers.{numbers}
 use Rattle.window.specs.declared.Reference.{Reference}
 use Rattle.window.specs.References.{Each}
 use Rattle.runs.specs.declared.Run.{Run}
-use Rattle.runs.specs.Words.{run_at, runs_of, repeated, references_of, kept_in}
-use Rattle.runs.specs.Shape.{run_held, runs_shaped, shaped}
+use Rattle.runs.specs.Words.{repeated, references_of, reference_behind}
 use Rattle.runs.specs.Ends.{Within}
-use Rattle.runs.proofs.Opening.{run_opens, repeated_length}
-use Rattle.runs.proofs.Encoded.{first_held, leads, ref}
-use Rattle.runs.proofs.Tables.{used_words, runs_shaped_lem}
+use Rattle.runs.proofs.Opening.{repeated_length, references_in}
+use Rattle.runs.proofs.Encoded.{ref}
 use Rattle.agreement.specs.declared.Record.{Record}
 use Rattle.agreement.specs.Agreement.{agrees, kept}
 use Rattle.agreement.proofs.Agreeing.{agreeing}
-use Rattle.lookups.specs.declared.Numbered.{Numbered}
-use Rattle.lookups.specs.declared.Numbered.TheVariants.{Kept, Missing}
 use Rattle.lookups.specs.Available.{numbered, kept_number}
-use Rattle.lookups.specs.Steps.{FoundWithin, behind}
 
 -- ---- numbers and places
 
-pub at : (m n : ℕ) (r : Reference) (rs : List Reference) → m ≡ n → numbered m (r ∷ rs) n ≡ Kept r
+pub at : (m n : ℕ) (r : Reference) (rs : List Reference) → m ≡ n → numbered m (r ∷ rs) n ≡ Some r
 unfolding numbered
-at m n r rs e = ap (λ t. cond t (Kept r) (numbered (suc m) rs n)) (eq-eqb m n e)
+at m n r rs e = ap (λ t. cond t (Some r) (numbered (suc m) rs n)) (eq-eqb m n e)
 
 pub past : (m n : ℕ) (r : Reference) (rs : List Reference) → (m ≡ n → ⊥) → numbered m (r ∷ rs) n ≡ numbered (suc m) rs n
 unfolding numbered
-past m n r rs o = ap (λ t. cond t (Kept r) (numbered (suc m) rs n)) (ne_eqb m n o)
+past m n r rs o = ap (λ t. cond t (Some r) (numbered (suc m) rs n)) (ne_eqb m n o)
 
 -- a number below the first's is not there
-under : (m n : ℕ) (rs : List Reference) → n < m → numbered m rs n ≡ Missing
+under : (m n : ℕ) (rs : List Reference) → n < m → numbered m rs n ≡ None
 unfolding numbered
 under m n [] l = refl
 under m n (r ∷ rs) l = past m n r rs (λ e. let z : ⊥ = omega arith in z) ∙ under (suc m) n rs (omega arith)
@@ -54,7 +49,7 @@ unfolding numbered
 moved a m n [] = refl
 moved a m n (r ∷ rs) = go (eqb m n) refl (moved a (suc m) n rs)
   where
-    go : (t : Bool) → eqb m n ≡ t → numbered (a + suc m) rs (a + n) ≡ numbered (suc m) rs n → numbered (a + m) (r ∷ rs) (a + n) ≡ cond t (Kept r) (numbered (suc m) rs n)
+    go : (t : Bool) → eqb m n ≡ t → numbered (a + suc m) rs (a + n) ≡ numbered (suc m) rs n → numbered (a + m) (r ∷ rs) (a + n) ≡ cond t (Some r) (numbered (suc m) rs n)
     go true e f = at (a + m) (a + n) r rs (ap (λ (k : ℕ). a + k) (eqb-true m n e))
     go false e f =
         let apart : m ≡ n → ⊥ = eqb-false m n e in
@@ -69,95 +64,61 @@ after m n (x ∷ xs) ys l =
     ap (λ (k : ℕ). numbered k ys n) (omega arith)
 
 -- among references of one duration
-among : (m n s d c : ℕ) (ys : List Reference) → m ≤ n → n < m + c → numbered m (repeated s d c ++ ys) n ≡ Kept (ref (s + d * (n - m)) d)
+among : (m n s d c : ℕ) (ys : List Reference) → m ≤ n → n < m + c → numbered m (repeated s d c ++ ys) n ≡ Some (ref (s + d * (n - m)) d)
 unfolding repeated
 among m n s d zero ys l k = let z : ⊥ = omega arith in absurd z
 among m n s d (suc c) ys l k = go (eqb m n) refl (among (suc m) n (s + d) d c ys)
   where
-    go : (t : Bool) → eqb m n ≡ t → (suc m ≤ n → n < suc m + c → numbered (suc m) (repeated (s + d) d c ++ ys) n ≡ Kept (ref (s + d + d * (n - suc m)) d)) →
-        numbered m (ref s d ∷ (repeated (s + d) d c ++ ys)) n ≡ Kept (ref (s + d * (n - m)) d)
+    go : (t : Bool) → eqb m n ≡ t → (suc m ≤ n → n < suc m + c → numbered (suc m) (repeated (s + d) d c ++ ys) n ≡ Some (ref (s + d + d * (n - suc m)) d)) →
+        numbered m (ref s d ∷ (repeated (s + d) d c ++ ys)) n ≡ Some (ref (s + d * (n - m)) d)
     go true e ih =
         let same : m ≡ n = eqb-true m n e in
         let none : n - m ≡ 0 = omega arith in
         let here : s ≡ s + d * (n - m) = omega (arith, ap (λ (x : ℕ). d * x) none) in
-        at m n (ref s d) (repeated (s + d) d c ++ ys) same ∙ ap (λ (x : ℕ). Kept (ref x d)) here
+        at m n (ref s d) (repeated (s + d) d c ++ ys) same ∙ ap (λ (x : ℕ). Some (ref x d)) here
     go false e ih =
         let apart : m ≡ n → ⊥ = eqb-false m n e in
         let one : n - m ≡ suc (n - suc m) = omega arith in
         let there : s + d + d * (n - suc m) ≡ s + d * (n - m) = omega (arith, ap (λ (x : ℕ). d * x) one) in
-        past m n (ref s d) (repeated (s + d) d c ++ ys) apart ∙ ih (omega arith) (omega arith) ∙ ap (λ (x : ℕ). Kept (ref x d)) there
+        past m n (ref s d) (repeated (s + d) d c ++ ys) apart ∙ ih (omega arith) (omega arith) ∙ ap (λ (x : ℕ). Some (ref x d)) there
 
 -- what is found is one of them
-found_within : (m n : ℕ) (rs : List Reference) → Each Within rs → FoundWithin (numbered m rs n)
+pub found_within : (m n : ℕ) (rs : List Reference) (r : Reference) → Each Within rs → Some r ≡ numbered m rs n → Within r
 unfolding numbered
-found_within m n [] w = tt
-found_within m n (r ∷ rs) w = go (eqb m n) (found_within (suc m) n rs w.1)
+found_within m n [] r w e = absurd (none-some r (sym e))
+found_within m n (x ∷ xs) r w e = go (eqb m n) (found_within (suc m) n xs r w.1) e
   where
-    go : (t : Bool) → FoundWithin (numbered (suc m) rs n) → FoundWithin (cond t (Kept r) (numbered (suc m) rs n))
-    go true f = w.0
-    go false f = f
-
-pub is_within : (m n : ℕ) (rs : List Reference) (x : Numbered) → Each Within rs → x ≡ numbered m rs n → FoundWithin x
-is_within m n rs x w e = subst⁻¹ FoundWithin e (found_within m n rs w)
+    go : (t : Bool) → (Some r ≡ numbered (suc m) xs n → Within r) → Some r ≡ cond t (Some x) (numbered (suc m) xs n) → Within r
+    go true f e = let same : x ≡ r = cc in subst Within same w.0
+    go false f e = f e
 
 -- ---- the walk
 
-pub record Seeking (ws : List ℕ) (used n i left skip : ℕ) : Type 0 where
-  pub words : i + 3 * left ≤ length ws
-  pub shape : runs_shaped (runs_of left (drop i ws)) ≡ true
-  pub rest : numbered 0 (references_of (runs_of left (drop i ws))) skip ≡ numbered 0 (kept_in used ws) n
+module _ (left : List Run) (skip : ℕ) (found : Option Reference) (so_far : numbered 0 (references_of left) skip ≡ found) where
+  pub seek_missing : left ≡ [] → None ≡ found
+  unfolding references_of numbered
+  seek_missing none = ap (λ rs. numbered 0 (references_of rs) skip) (sym none) ∙ so_far
 
-pub seek_start : (ws : List ℕ) (used n : ℕ) → shaped used ws ≡ true → Seeking ws used n 0 used n
-seek_start ws used n t = record { words = omega (arith, used_words used ws t); shape = runs_shaped_lem used ws t; rest = refl }
+  module _ (x : Run) (rest : List Run) (opened : left ≡ x ∷ rest) where
+    behind_run : numbered 0 (references_in x ++ references_of rest) skip ≡ found
+    unfolding references_of
+    behind_run = ap (λ rs. numbered 0 (references_of rs) skip) (sym opened) ∙ so_far
 
-module _ (ws : List ℕ) (used n i left skip : ℕ) (p : Seeking ws used n i left skip) where
-  pub seek_missing : left ≤ 0 → Missing ≡ numbered 0 (kept_in used ws) n
-  unfolding runs_of references_of numbered
-  seek_missing l =
-      let none : 0 ≡ left = omega arith in
-      ap (λ (k : ℕ). numbered 0 (references_of (runs_of k (drop i ws))) skip) none ∙ p.rest
+    pub seek_found : skip < x.count → (r : Reference) → r ≡ reference_behind x skip → Some r ≡ found
+    seek_found l r f =
+        ap Some f ∙
+        ap (λ (k : ℕ). Some (ref (x.start.0 + x.span.0 * k) x.span.0)) (sym (sub-zero skip)) ∙
+        sym (among 0 skip x.start.0 x.span.0 x.count (references_of rest) (omega arith) (omega arith)) ∙
+        behind_run
 
-  module _ (some : 0 < left) where
-    pub seek_room : i + 2 < length ws
-    seek_room = omega (arith, p.words)
-
-    module _ (x : Run) (e : x ≡ run_at ws i) where
-      opens : runs_of left (drop i ws) ≡ x ∷ runs_of (left - 1) (drop (i + 3) ws)
-      opens = run_opens left i ws some ∙ ap (λ r. r ∷ runs_of (left - 1) (drop (i + 3) ws)) (sym e)
-
-      first_shaped : runs_shaped (x ∷ runs_of (left - 1) (drop (i + 3) ws)) ≡ true
-      first_shaped = ap runs_shaped (sym opens) ∙ p.shape
-
-      pub seek_held : run_held x ≡ true
-      seek_held = first_held x (runs_of (left - 1) (drop (i + 3) ws)) first_shaped
-
-      behind_run : numbered 0 (repeated x.start.0 x.span.0 x.count ++ references_of (runs_of (left - 1) (drop (i + 3) ws))) skip ≡ numbered 0 (kept_in used ws) n
-      unfolding references_of
-      behind_run = ap (λ rs. numbered 0 (references_of rs) skip) (sym opens) ∙ p.rest
-
-      pub seek_found : skip < x.count → (r : Reference) → r ≡ behind x skip → Kept r ≡ numbered 0 (kept_in used ws) n
-      seek_found l r f =
-          ap Kept f ∙
-          ap (λ (k : ℕ). Kept (ref (x.start.0 + x.span.0 * k) x.span.0)) (sym (sub-zero skip)) ∙
-          sym (among 0 skip x.start.0 x.span.0 x.count (references_of (runs_of (left - 1) (drop (i + 3) ws))) (omega arith) (omega arith)) ∙
-          behind_run
-
-      pub seek_again : x.count ≤ skip → Seeking ws used n (i + 3) (left - 1) (skip - x.count)
-      seek_again l =
-          let xs = repeated x.start.0 x.span.0 x.count in
-          let ys = references_of (runs_of (left - 1) (drop (i + 3) ws)) in
-          let size : length xs ≡ x.count = repeated_length x.start.0 x.span.0 x.count in
-          let from : 0 + length xs ≡ x.count + 0 = omega arith in
-          let to : x.count + (skip - x.count) ≡ skip = omega arith in
-          record {
-            words = omega (arith, p.words);
-            shape = (leads x (runs_of (left - 1) (drop (i + 3) ws)) first_shaped).rest;
-            rest =
-                sym (moved x.count 0 (skip - x.count) ys) ∙
-                ap₂ (λ (a b : ℕ). numbered a ys b) (sym from) to ∙
-                sym (after 0 skip xs ys (omega arith)) ∙
-                behind_run;
-          }
+    pub seek_again : x.count ≤ skip → numbered 0 (references_of rest) (skip - x.count) ≡ found
+    seek_again l =
+        let xs = references_in x in
+        let ys = references_of rest in
+        let size : length xs ≡ x.count = repeated_length x.start.0 x.span.0 x.count in
+        let from : 0 + length xs ≡ x.count + 0 = omega arith in
+        let to : x.count + (skip - x.count) ≡ skip = omega arith in
+        sym (moved x.count 0 (skip - x.count) ys) ∙ ap₂ (λ (a b : ℕ). numbered a ys b) (sym from) to ∙ sym (after 0 skip xs ys (omega arith)) ∙ behind_run
 
 -- ---- the number of the first kept one
 
@@ -167,11 +128,11 @@ module _ (rec : Record) (ws : List ℕ) (a : agrees rec ws ≡ true) where
       let held = (agreeing rec ws a).held in
       record { fits = omega (arith, held.dropped, held.numbers) }
 
-  pub number_under : (n : ℕ) → n < rec.head.first.0 + rec.dropped → Missing ≡ kept_number rec ws n
+  pub number_under : (n : ℕ) → n < rec.head.first.0 + rec.dropped → None ≡ kept_number rec ws n
   number_under n l = sym (under (rec.head.first.0 + rec.dropped) n (kept rec ws) l)
 
   -- a number beyond the limit lies past the last kept one
-  pub number_over : (n : ℕ) (m : NumberMade) → m ≡ number_made n → m ≡ number.Refused → Missing ≡ kept_number rec ws n
+  pub number_over : (n : ℕ) (m : Option Number) → m ≡ number_made n → m ≡ None → None ≡ kept_number rec ws n
   unfolding numbered
   number_over n m e k =
       let first : ℕ = rec.head.first.0 + rec.dropped in
@@ -181,10 +142,7 @@ module _ (rec : Record) (ws : List ℕ) (a : agrees rec ws ≡ true) where
       (ap (λ rs. numbered first rs n) (sym (append-nil (kept rec ws))) ∙
       after first n (kept rec ws) [] (omega (arith, facts.total, facts.held.dropped, facts.held.numbers)))
 
-  pub number_asked : (n : ℕ) (m : NumberMade) (asked : Number) (x : Numbered) → m ≡ number_made n → m ≡ number.Made asked → x ≡ kept_number rec ws asked.0 → x ≡ kept_number rec ws n
-  number_asked n m asked x e k f = f ∙ ap (λ (y : Number). kept_number rec ws y.0) (numbers.is n m asked e k)
-
-  pub number_found : (n : ℕ) (x : Numbered) → rec.head.first.0 + rec.dropped ≤ n → x ≡ numbered 0 (kept rec ws) (n - (rec.head.first.0 + rec.dropped)) → x ≡ kept_number rec ws n
+  pub number_found : (n : ℕ) (x : Option Reference) → rec.head.first.0 + rec.dropped ≤ n → x ≡ numbered 0 (kept rec ws) (n - (rec.head.first.0 + rec.dropped)) → x ≡ kept_number rec ws n
   number_found n x l e =
       let first : ℕ = rec.head.first.0 + rec.dropped in
       let from : first + 0 ≡ first = omega arith in

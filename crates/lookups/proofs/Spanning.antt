@@ -1,8 +1,8 @@
 -- The runs that touch a span: the first from the front, the last from the back, and between them every one.
-use mathlib.Core.Path.{◌≡◌, refl, sym, ap, ap₂, subst, subst⁻¹, ◌∙◌}
+use mathlib.Core.Path.{◌≡◌, refl, sym, ap, ap₂, subst⁻¹, ◌∙◌}
 use mathlib.Core.Bool.{Bool, true, false, cond}
 use mathlib.Core.List.{List, [], ◌∷◌, ◌++◌}
-use Prim.Native.Nat.{ℕ, zero, suc, ◌+◌, ◌-◌, ◌*◌, ◌^◌, ◌≤◌, ◌<◌, min, max}
+use Prim.Native.Nat.{ℕ, zero, suc, ◌+◌, ◌*◌, ◌^◌, ◌≤◌, ◌<◌, min, max}
 use native.Mathlib.Nat.{add-zero, not-suc-le-zero, le_of_suc-le-suc}
 use native.Mathlib.Omega.{arith}
 use borrow.Author.Tests.{ltb-true, ltb-false, lt-ltb, le-ltb, eqb-false, ne_eqb}
@@ -11,7 +11,6 @@ use lib.ListN.{length, take, drop, take-append-drop, drop_of_length-le}
 use mir.Syntax.{w64}
 use mir.Val.{Fits}
 use Rattle.units.specs.declared.WideTick.{WideTick}
-use Rattle.units.proofs.Guards.{same, other}
 use Rattle.runs.specs.declared.Run.{Run}
 use Rattle.runs.specs.Words.{run_at, runs_of, run_end}
 use Rattle.runs.specs.Shape.{run_held, runs_shaped, shaped}
@@ -22,23 +21,21 @@ use Rattle.agreement.specs.declared.Record.{Record}
 use Rattle.agreement.specs.declared.refusal.Refusal.TheVariants.{Disagreement, EmptySpan}
 use Rattle.agreement.specs.Agreement.{agrees}
 use Rattle.agreement.proofs.Agreeing.{agree_shaped}
-use Rattle.lookups.specs.declared.Touching.{Touching}
-use Rattle.lookups.specs.declared.Touching.TheVariants.{Words, Refused}
-use Rattle.lookups.specs.Spans.{touches, before_first, upto_last, touched_words, touching_words, part_of}
+use Rattle.std.specs.Prelude.{Err, Ok, Result}
+use Rattle.agreement.specs.declared.refusal.Refusal.{Refusal}
+use Rattle.lookups.specs.declared.Words.{Words}
+use Rattle.lookups.specs.Spans.{touches, before_first, upto_last, touched_words, touching_words}
 use Rattle.lookups.specs.Steps.{InTable}
 
 -- ---- one run
 
+-- a held run that starts before b touches exactly where it ends after a, if a lies before b
 module _ (r : Run) (a b : ℕ) (held : run_held r ≡ true) (l : a < b) where
   run_some : r.start.0 < run_end r
   run_some = let f = run_facts r held in run_grows r f.lasts f.some
 
-  pub touch_past : b ≤ r.start.0 → false ≡ touches a b r
-  touch_past m = sym (le-ltb (max r.start.0 a) (min (run_end r) b) (omega arith))
-
-  -- a run that starts before b touches exactly where it ends after a
-  pub touch_is : r.start.0 < b → ltb a (run_end r) ≡ touches a b r
-  touch_is m = go (ltb a (run_end r)) refl
+  pub touch_is : r.start.0 < b → (end : ℕ) → end ≡ run_end r → ltb a end ≡ touches a b r
+  touch_is m end e = ap (ltb a) e ∙ go (ltb a (run_end r)) refl
     where
       go : (t : Bool) → ltb a (run_end r) ≡ t → t ≡ touches a b r
       go true e = let k : a < run_end r = ltb-true a (run_end r) e in sym (lt-ltb (max r.start.0 a) (min (run_end r) b) (omega (arith, run_some)))
@@ -107,99 +104,84 @@ run_end_lem n ws =
     sym (take-append-drop n (runs_of (suc n) ws)) ∙
     ap₂ ◌++◌ (first_runs n (suc n) ws (omega arith)) (runs_from (suc n) n ws (omega arith) ∙ ap (λ rs. run_at ws (n * 3) ∷ rs) none)
 
-pub span_held_lem : (ws : List ℕ) (used : ℕ) → shaped used ws ≡ true → (j : ℕ) (x : Run) → j < used → x ≡ run_at ws (j * 3) → run_held x ≡ true
-span_held_lem ws used sh j x l e =
-    ap run_held e ∙
-    first_held (run_at ws (j * 3)) (drop (j + 1) (runs_of used ws))
-    (ap runs_shaped (sym (runs_from used j ws l)) ∙ shaped_drop j (runs_of used ws) (runs_shaped_lem used ws sh))
+-- ---- the walk from the front, before the first run
 
--- ---- the walk from the front
+module _ (used : ℕ) (ws : List ℕ) (before : ℕ) (left : List Run) (z : before ≡ 0) (e : left ≡ runs_of used ws) where
+  pub front_counted : before + length left ≡ used
+  front_counted = omega (arith, ap length e, runs_length used ws)
 
-pub record Fronting (t : Run → Bool) (ws : List ℕ) (used j : ℕ) : Type 0 where
-  pub words : 3 * used ≤ length ws
-  pub most : j ≤ used
-  pub rest : j + before_first t (drop j (runs_of used ws)) ≡ before_first t (runs_of used ws)
+  pub front_first : (t : Run → Bool) → before + before_first t left ≡ before_first t (runs_of used ws)
+  front_first t = omega (arith, ap (before_first t) e)
 
-module _ (t : Run → Bool) (ws : List ℕ) (used : ℕ) where
-  pub front_start : shaped used ws ≡ true → Fronting t ws used 0
-  front_start sh = record { words = used_words used ws sh; most = omega arith; rest = omega arith }
+pub used_shaped : (used : ℕ) (ws : List ℕ) (left : List Run) → left ≡ runs_of used ws → shaped used ws ≡ true → runs_shaped left ≡ true
+used_shaped used ws left e shape = ap runs_shaped e ∙ runs_shaped_lem used ws shape
 
-  module _ (j : ℕ) (p : Fronting t ws used j) where
-    pub front_none : used ≤ j → j ≡ before_first t (runs_of used ws)
+pub front_fits : (before long used : ℕ) → before + long ≡ used → Fits w64 used → before + long < 2 ^ 64
+front_fits before long used counted fits = omega (arith, fits.fits)
+
+-- ---- at a run, the first of those that are left
+
+module _ (t : Run → Bool) (before all : ℕ) (left : List Run) (so_far : before + before_first t left ≡ all) where
+  pub front_none : (used : ℕ) → before + length left ≡ used → left ≡ [] → used ≡ all
+  unfolding before_first
+  front_none used counted none =
+      let long : length left ≡ 0 = ap length none in
+      let first : before_first t left ≡ 0 = ap (before_first t) none in
+      omega arith
+
+  module _ (r : Run) (rest : List Run) (opened : left ≡ r ∷ rest) (u : Bool) (f : u ≡ t r) where
+    front_opens : before + cond u 0 (suc (before_first t rest)) ≡ all
     unfolding before_first
-    front_none l =
-        let all : length (runs_of used ws) ≤ j = omega (arith, runs_length used ws) in
-        let none : drop j (runs_of used ws) ≡ [] = drop_of_length-le (runs_of used ws) all in
-        sym (add-zero j) ∙ ap (λ rs. j + before_first t rs) (sym none) ∙ p.rest
+    front_opens = ap (λ v. before + cond v 0 (suc (before_first t rest))) f ∙ ap (λ rs. before + before_first t rs) (sym opened) ∙ so_far
 
-    module _ (l : j < used) (x : Run) (e : x ≡ run_at ws (j * 3)) (u : Bool) (f : u ≡ t x) where
-      front_opens : j + cond u 0 (suc (before_first t (drop (j + 1) (runs_of used ws)))) ≡ before_first t (runs_of used ws)
-      unfolding before_first
-      front_opens =
-          ap (λ v. j + cond v 0 (suc (before_first t (drop (j + 1) (runs_of used ws))))) (f ∙ ap t e) ∙
-          ap (λ rs. j + before_first t rs) (sym (runs_from used j ws l)) ∙
-          p.rest
+    pub front_found : u ≡ true → before ≡ all
+    front_found y = sym (add-zero before) ∙ ap (λ v. before + cond v 0 (suc (before_first t rest))) (sym y) ∙ front_opens
 
-      pub front_found : u ≡ true → j ≡ before_first t (runs_of used ws)
-      front_found y = sym (add-zero j) ∙ ap (λ v. j + cond v 0 (suc (before_first t (drop (j + 1) (runs_of used ws))))) (sym y) ∙ front_opens
+    pub front_again : (next : ℕ) → next ≡ before + 1 → u ≡ false → next + before_first t rest ≡ all
+    front_again next e n =
+        let one : before + suc (before_first t rest) ≡ all = ap (λ v. before + cond v 0 (suc (before_first t rest))) (sym n) ∙ front_opens in
+        omega arith
 
-      pub front_again : u ≡ false → Fronting t ws used (j + 1)
-      front_again n =
-          let next : j + 1 + before_first t (drop (j + 1) (runs_of used ws)) ≡ j + suc (before_first t (drop (j + 1) (runs_of used ws))) = omega arith in
-          record {
-            words = p.words;
-            most = omega arith;
-            rest = next ∙ ap (λ v. j + cond v 0 (suc (before_first t (drop (j + 1) (runs_of used ws))))) (sym n) ∙ front_opens;
-          }
+pub counted_more : (left : List Run) (r : Run) (rest : List Run) → left ≡ r ∷ rest → (before next used : ℕ) → before + length left ≡ used → next ≡ before + 1 → next + length rest ≡ used
+counted_more left r rest opened before next used counted e = omega (arith, ap length opened)
+
+pub left_held : (left : List Run) (r : Run) (rest : List Run) → left ≡ r ∷ rest → runs_shaped left ≡ true → run_held r ≡ true
+left_held left r rest opened shape = first_held r rest (ap runs_shaped (sym opened) ∙ shape)
 
 -- ---- the walk from the back
 
-pub record Backing (t : Run → Bool) (ws : List ℕ) (used left : ℕ) : Type 0 where
-  pub words : 3 * used ≤ length ws
-  pub most : left ≤ used
-  pub rest : upto_last t (runs_of left ws) ≡ upto_last t (runs_of used ws)
+pub used_held : (used : ℕ) (ws : List ℕ) → shaped used ws ≡ true → (j : ℕ) (x : Run) → j < used → x ≡ run_at ws (j * 3) → run_held x ≡ true
+used_held used ws shape j x l e =
+    ap run_held e ∙
+    first_held (run_at ws (j * 3)) (drop (j + 1) (runs_of used ws))
+    (ap runs_shaped (sym (runs_from used j ws l)) ∙ shaped_drop j (runs_of used ws) (runs_shaped_lem used ws shape))
 
-module _ (t : Run → Bool) (ws : List ℕ) (used : ℕ) where
-  pub back_start : shaped used ws ≡ true → Backing t ws used used
-  back_start sh = record { words = used_words used ws sh; most = omega arith; rest = refl }
+module _ (t : Run → Bool) (ws : List ℕ) (used left j : ℕ) (so_far : upto_last t (runs_of left ws) ≡ upto_last t (runs_of used ws)) (one : j + 1 ≡ left) where
+  module _ (x : Run) (e : x ≡ run_at ws (j * 3)) (u : Bool) (f : u ≡ t x) where
+    back_opens : cond u (j + 1) (upto_last t (runs_of j ws)) ≡ upto_last t (runs_of used ws)
+    back_opens =
+        let size : j + 1 ≡ suc (length (runs_of j ws)) = omega (arith, runs_length j ws) in
+        let next : suc j ≡ left = omega arith in
+        ap₂ (λ v (n : ℕ). cond v n (upto_last t (runs_of j ws))) (f ∙ ap t e) size ∙
+        sym (upto_end t (runs_of j ws) (run_at ws (j * 3))) ∙
+        ap (upto_last t) (sym (run_end_lem j ws)) ∙
+        ap (λ (n : ℕ). upto_last t (runs_of n ws)) next ∙
+        so_far
 
-  module _ (left : ℕ) (p : Backing t ws used left) where
-    pub back_held : shaped used ws ≡ true → 0 < left → (x : Run) → x ≡ run_at ws ((left - 1) * 3) → run_held x ≡ true
-    back_held sh l x e = span_held_lem ws used sh (left - 1) x (omega (arith, p.most)) e
+    pub back_found : u ≡ true → j + 1 ≡ upto_last t (runs_of used ws)
+    back_found y = ap (λ v. cond v (j + 1) (upto_last t (runs_of j ws))) (sym y) ∙ back_opens
 
-    pub back_none : left ≤ 0 → 0 ≡ upto_last t (runs_of used ws)
-    unfolding upto_last runs_of
-    back_none l = let none : 0 ≡ left = omega arith in ap (λ (n : ℕ). upto_last t (runs_of n ws)) none ∙ p.rest
+    pub back_again : u ≡ false → upto_last t (runs_of j ws) ≡ upto_last t (runs_of used ws)
+    back_again n = ap (λ v. cond v (j + 1) (upto_last t (runs_of j ws))) (sym n) ∙ back_opens
 
-    module _ (l : 0 < left) (x : Run) (e : x ≡ run_at ws ((left - 1) * 3)) (u : Bool) (f : u ≡ t x) where
-      back_opens : cond u left (upto_last t (runs_of (left - 1) ws)) ≡ upto_last t (runs_of used ws)
-      back_opens =
-          let size : left ≡ suc (length (runs_of (left - 1) ws)) = omega (arith, runs_length (left - 1) ws) in
-          let one : suc (left - 1) ≡ left = omega arith in
-          ap₂ (λ v (n : ℕ). cond v n (upto_last t (runs_of (left - 1) ws))) (f ∙ ap t e) size ∙
-          sym (upto_end t (runs_of (left - 1) ws) (run_at ws ((left - 1) * 3))) ∙
-          ap (upto_last t) (sym (run_end_lem (left - 1) ws)) ∙
-          ap (λ (n : ℕ). upto_last t (runs_of n ws)) one ∙
-          p.rest
-
-      pub back_found : u ≡ true → left ≡ upto_last t (runs_of used ws)
-      back_found y = ap (λ v. cond v left (upto_last t (runs_of (left - 1) ws))) (sym y) ∙ back_opens
-
-      pub back_again : u ≡ false → Backing t ws used (left - 1)
-      back_again n =
-          record { words = p.words; most = omega (arith, p.most); rest = ap (λ v. cond v left (upto_last t (runs_of (left - 1) ws))) (sym n) ∙ back_opens }
+pub back_none : (t : Run → Bool) (ws : List ℕ) (used left : ℕ) → upto_last t (runs_of left ws) ≡ upto_last t (runs_of used ws) → left ≡ 0 → 0 ≡ upto_last t (runs_of used ws)
+unfolding upto_last runs_of
+back_none t ws used left so_far none = ap (λ (n : ℕ). upto_last t (runs_of n ws)) (sym none) ∙ so_far
 
 -- ---- the words
 
 module _ (a b : ℕ) (ws : List ℕ) (used : ℕ) where
-  pub touched_none : (upto : ℕ) → upto ≡ upto_last (touches a b) (runs_of used ws) → upto ≡ 0 → Words 0 0 ≡ touched_words a b (runs_of used ws)
-  touched_none upto e z = same (upto_last (touches a b) (runs_of used ws)) 0 _ _ (sym e ∙ z)
-
   module _ (upto : ℕ) (e : upto ≡ upto_last (touches a b) (runs_of used ws)) where
-    pub touched_some : (upto ≡ 0 → ⊥) → (from : ℕ) → from ≡ before_first (touches a b) (runs_of used ws) → Words (3 * from) (3 * upto) ≡ touched_words a b (runs_of used ws)
-    touched_some o from f =
-        other (upto_last (touches a b) (runs_of used ws)) 0 _ _ _ (λ z. o (e ∙ z)) (ap₂ (λ (x y : ℕ). Words (3 * x) (3 * y)) f e)
-
     pub upto_fits : shaped used ws ≡ true → length ws < 2 ^ 64 → Fits w64 (3 * upto)
     upto_fits sh l =
         record { fits = omega (arith, e, upto_most (touches a b) (runs_of used ws), runs_length used ws, used_words used ws sh) }
@@ -208,11 +190,11 @@ module _ (a b : ℕ) (ws : List ℕ) (used : ℕ) where
   from_fits from f sh l =
       record { fits = omega (arith, f, before_most (touches a b) (runs_of used ws), runs_length used ws, used_words used ws sh) }
 
-  words_inside : shaped used ws ≡ true → InTable (length ws) (touched_words a b (runs_of used ws))
+  words_inside : shaped used ws ≡ true → InTable (length ws) (Ok (touched_words a b (runs_of used ws)))
   words_inside sh = go (eqb (upto_last (touches a b) (runs_of used ws)) 0) refl
     where
       go : (s : Bool) → eqb (upto_last (touches a b) (runs_of used ws)) 0 ≡ s →
-          InTable (length ws) (cond s (Words 0 0) (Words (3 * before_first (touches a b) (runs_of used ws)) (3 * upto_last (touches a b) (runs_of used ws))))
+          InTable (length ws) (Ok (cond s (record { from = 0; to = 0 }) (record { from = 3 * before_first (touches a b) (runs_of used ws); to = 3 * upto_last (touches a b) (runs_of used ws) })))
       go true e = (omega arith, omega arith)
       go false e =
           let l : before_first (touches a b) (runs_of used ws) < upto_last (touches a b) (runs_of used ws) = before_upto (touches a b) (runs_of used ws) (eqb-false (upto_last (touches a b) (runs_of used ws)) 0 e) in
@@ -224,20 +206,10 @@ module _ (rec : Record) (ws : List ℕ) (a b : WideTick) where
   span_inside : InTable (length ws) (touching_words rec ws a b)
   span_inside = go (agrees rec ws) refl (ltb a.0 b.0)
     where
-      go : (s : Bool) → agrees rec ws ≡ s → (t : Bool) → InTable (length ws) (cond s (cond t (touched_words a.0 b.0 (runs_of rec.used ws)) (Refused EmptySpan)) (Refused Disagreement))
+      go : (s : Bool) → agrees rec ws ≡ s → (t : Bool) → InTable (length ws) (cond s (cond t (Ok (touched_words a.0 b.0 (runs_of rec.used ws))) (Err EmptySpan)) (Err Disagreement))
       go true e true = words_inside a.0 b.0 ws rec.used (agree_shaped rec ws e)
       go true e false = tt
       go false e t = tt
 
-  pub part_inside : (x : Touching) → x ≡ touching_words rec ws a b → InTable (length ws) x
+  pub part_inside : (x : Result Words Refusal) → x ≡ touching_words rec ws a b → InTable (length ws) x
   part_inside x e = subst⁻¹ (InTable (length ws)) e span_inside
-
-pub part_words : (x : Touching) (n from to : ℕ) → x ≡ Words from to → InTable n x → (from ≤ to) × (to ≤ n)
-part_words x n from to e i = subst (InTable n) e i
-
-module _ (x : Touching) (ws : List ℕ) where
-  pub part_named : (from to : ℕ) (part : List ℕ) → x ≡ Words from to → part ≡ take (to - from) (drop from ws) → part ≡ part_of x ws
-  part_named from to part e f = f ∙ ap (λ y. part_of y ws) (sym e)
-
-  pub part_same : (y : Touching) (part : List ℕ) → x ≡ y → part ≡ part_of x ws → part ≡ part_of y ws
-  part_same y part e f = f ∙ ap (λ z. part_of z ws) e

@@ -3,7 +3,7 @@
 -- availabilityStartTime, and the period does not cut them. The first kept reference's number is the first number plus
 -- dropped, and each other's is one more than that of the one before it. Refused with 2 or 13, and at a clock also with 10.
 -- Paper: Verdict and availability; Record and table; Refusal numbers.
-use Rattle.std.specs.Prelude.{ℕ, suc, ◌+◌, ◌*◌, Bool, true, cond, ◌&&◌, List, [], ◌∷◌, eqb, ℤ, pos, ◌+ℤ◌}
+use Rattle.std.specs.Prelude.{Option, Some, None, Result, Err, Ok, ℕ, suc, ◌+◌, ◌*◌, Bool, true, cond, ◌&&◌, List, [], ◌∷◌, eqb, ℤ, pos, ◌+ℤ◌}
 use Rattle.std.specs.Int.Signed.{le_z, lt_z}
 use Rattle.units.specs.declared.WideMillis.{WideMillis}
 use Rattle.units.specs.declared.WideNumber.{WideNumber}
@@ -13,23 +13,20 @@ use Rattle.window.specs.declared.Reference.{Reference}
 use Rattle.window.specs.Place.{place}
 use Rattle.window.specs.Window.{end_of}
 use Rattle.agreement.specs.declared.Record.{Record}
+use Rattle.agreement.specs.declared.refusal.Refusal.{Refusal}
 use Rattle.agreement.specs.declared.refusal.Refusal.TheVariants.{Disagreement, ClockLimit, NotKept}
 use Rattle.agreement.specs.Agreement.{agrees, kept}
 use Rattle.agreement.specs.Rows.{◌unless◌else◌}
-use Rattle.lookups.specs.declared.Numbered.{Numbered}
-use Rattle.lookups.specs.declared.Numbered.TheVariants.{Kept, Missing}
 use Rattle.lookups.specs.declared.Availability.{Availability}
-use Rattle.lookups.specs.declared.Availability.TheVariants as answer
-use Rattle.lookups.specs.declared.AvailableAt.{AvailableAt}
-use Rattle.lookups.specs.declared.AvailableAt.TheVariants as at
+use Rattle.lookups.specs.declared.Availability.TheVariants.{Ends, NeverEnds}
 
 -- the reference of a number, among references of which the first has number m
-unfoldable pub numbered : ℕ → List Reference → ℕ → Numbered
-numbered m [] n = Missing
-numbered m (r ∷ rs) n = cond (eqb m n) (Kept r) (numbered (suc m) rs n)
+unfoldable pub numbered : ℕ → List Reference → ℕ → Option Reference
+numbered m [] n = None
+numbered m (r ∷ rs) n = cond (eqb m n) (Some r) (numbered (suc m) rs n)
 
 -- the kept reference of a number
-abbrev pub kept_number : Record → List ℕ → ℕ → Numbered
+abbrev pub kept_number : Record → List ℕ → ℕ → Option Reference
 kept_number rec ws n = numbered (rec.head.first.0 + rec.dropped) (kept rec ws) n
 
 -- so many milliseconds in grains
@@ -45,28 +42,28 @@ available_upto h r = available_from h r +ℤ lasting h h.depth.0 +ℤ pos (r.spa
 abbrev pub availability_of : Head → Reference → Availability
 availability_of h r =
     cond (eqb h.depth.0 0)
-    (answer.NeverEnds (record { 0 = available_from h r }))
-    (answer.Ends (record { 0 = available_from h r }) (record { 0 = available_upto h r }))
+    (NeverEnds (record { 0 = available_from h r }))
+    (Ends (record { 0 = available_from h r }) (record { 0 = available_upto h r }))
 
 -- whether a reference is available at a clock
 abbrev pub available : Head → Reference → ℕ → Bool
 available h r c = le_z (available_from h r) (lasting h c) && cond (eqb h.depth.0 0) true (lt_z (lasting h c) (available_upto h r))
 
-abbrev pub number_availability : Head → Numbered → Availability
-number_availability h Missing = answer.Refused NotKept
-number_availability h (Kept r) = availability_of h r
+abbrev pub number_availability : Head → Option Reference → Result Availability Refusal
+number_availability h None = Err NotKept
+number_availability h (Some r) = Ok (availability_of h r)
 
-abbrev pub number_available : Head → ℕ → Numbered → AvailableAt
-number_available h c Missing = at.Refused NotKept
-number_available h c (Kept r) = cond (available h r c) at.Yes at.No
+abbrev pub number_available : Head → ℕ → Option Reference → Result Bool Refusal
+number_available h c None = Err NotKept
+number_available h c (Some r) = Ok (available h r c)
 
-abbrev pub availability_in : Record → List ℕ → WideNumber → Availability
+abbrev pub availability_in : Record → List ℕ → WideNumber → Result Availability Refusal
 availability_in rec ws n =
-    answer.Refused Disagreement unless agrees rec ws else
+    Err Disagreement unless agrees rec ws else
     number_availability rec.head (kept_number rec ws n.0)
 
-abbrev pub available_in : Record → List ℕ → WideNumber → WideMillis → AvailableAt
+abbrev pub available_in : Record → List ℕ → WideNumber → WideMillis → Result Bool Refusal
 available_in rec ws n c =
-    at.Refused Disagreement unless agrees rec ws else
-    at.Refused ClockLimit unless clock_held c else
+    Err Disagreement unless agrees rec ws else
+    Err ClockLimit unless clock_held c else
     number_available rec.head c.0 (kept_number rec ws n.0)

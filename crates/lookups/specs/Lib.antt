@@ -1,5 +1,4 @@
 pub mod Available
 pub mod Spans
-pub mod Numbers
 pub mod Steps
 pub mod Stamps

@@ -2,7 +2,7 @@
 -- edge is not to touch. Answered as the words from the first touching run to the last, and as that part of the table; none
 -- if no run touches. The part holds exactly the runs that touch. Refused with 2 or 14, and then the part is empty. Paper:
 -- Verdict and availability; Refusal numbers.
-use Rattle.std.specs.Prelude.{ℕ, suc, ◌+◌, ◌*◌, ◌-◌, ◌≤◌, ◌<◌, min, max, ◌≡◌, ◌↔◌, Bool, true, false, cond, List, [], ◌∷◌, ◌++◌, eqb, ltb, take, drop}
+use Rattle.std.specs.Prelude.{Result, Err, Ok, ℕ, suc, ◌+◌, ◌*◌, ◌-◌, ◌≤◌, ◌<◌, min, max, ◌≡◌, ◌↔◌, Bool, true, false, cond, List, [], ◌∷◌, ◌++◌, eqb, ltb, take, drop}
 use Rattle.units.specs.declared.WideTick.{WideTick}
 use Rattle.runs.specs.declared.Run.{Run}
 use Rattle.runs.specs.Words.{run_at, runs_of, words_of, run_end}
@@ -11,8 +11,7 @@ use Rattle.agreement.specs.declared.refusal.Refusal.{Refusal}
 use Rattle.agreement.specs.declared.refusal.Refusal.TheVariants.{Disagreement, EmptySpan}
 use Rattle.agreement.specs.Agreement.{agrees}
 use Rattle.agreement.specs.Rows.{◌unless◌else◌}
-use Rattle.lookups.specs.declared.Touching.{Touching}
-use Rattle.lookups.specs.declared.Touching.TheVariants.{Words, Refused}
+use Rattle.lookups.specs.declared.Words.{Words}
 
 -- the later of the two starts lies before the earlier of the two ends
 abbrev pub touches : ℕ → ℕ → Run → Bool
@@ -29,20 +28,22 @@ upto_last t [] = 0
 upto_last t (r ∷ rs) = cond (eqb (upto_last t rs) 0) (cond (t r) 1 0) (suc (upto_last t rs))
 
 -- three words a run
-abbrev pub touched_words : ℕ → ℕ → List Run → Touching
+abbrev pub touched_words : ℕ → ℕ → List Run → Words
 touched_words a b rs =
-    cond (eqb (upto_last (touches a b) rs) 0) (Words 0 0) (Words (3 * before_first (touches a b) rs) (3 * upto_last (touches a b) rs))
+    cond (eqb (upto_last (touches a b) rs) 0)
+    (record { from = 0; to = 0 })
+    (record { from = 3 * before_first (touches a b) rs; to = 3 * upto_last (touches a b) rs })
 
-abbrev pub touching_words : Record → List ℕ → WideTick → WideTick → Touching
+abbrev pub touching_words : Record → List ℕ → WideTick → WideTick → Result Words Refusal
 touching_words rec ws a b =
-    Refused Disagreement unless agrees rec ws else
-    Refused EmptySpan unless ltb a.0 b.0 else
-    touched_words a.0 b.0 (runs_of rec.used ws)
+    Err Disagreement unless agrees rec ws else
+    Err EmptySpan unless ltb a.0 b.0 else
+    Ok (touched_words a.0 b.0 (runs_of rec.used ws))
 
 -- the part of a table that an answer names
-abbrev pub part_of : Touching → List ℕ → List ℕ
-part_of (Words from to) ws = take (to - from) (drop from ws)
-part_of (Refused r) ws = []
+abbrev pub part_of : Result Words Refusal → List ℕ → List ℕ
+part_of (Ok w) ws = take (w.to - w.from) (drop w.from ws)
+part_of (Err r) ws = []
 
 -- ---- THE THEOREM: what the part holds, and where it lies. Proved by `touching_part` of proofs/Exact.antt
 
@@ -57,16 +58,16 @@ pub record TouchingPart : Type 0 where
   pub runs : (rec : Record) (ws : List ℕ) (a b : WideTick) → agrees rec ws ≡ true → a.0 < b.0 →
       part_of (touching_words rec ws a b) ws ≡ words_of (passing (touches a.0 b.0) (runs_of rec.used ws))
   -- the words that are named lie in the table, and the part stands there, between what stands before it and behind it
-  pub within : (rec : Record) (ws : List ℕ) (a b : WideTick) (from to : ℕ) → touching_words rec ws a b ≡ Words from to →
+  pub within : (rec : Record) (ws : List ℕ) (a b : WideTick) (from to : ℕ) → touching_words rec ws a b ≡ Ok (record { from = from; to = to }) →
       (from ≤ to) × (to ≤ 3 * rec.used)
-  pub place : (rec : Record) (ws : List ℕ) (a b : WideTick) (from to : ℕ) → touching_words rec ws a b ≡ Words from to →
+  pub place : (rec : Record) (ws : List ℕ) (a b : WideTick) (from to : ℕ) → touching_words rec ws a b ≡ Ok (record { from = from; to = to }) →
       ws ≡ take from ws ++ part_of (touching_words rec ws a b) ws ++ drop to ws
   -- a used run stands between them, with all of its three words, exactly where it touches
-  pub inside : (rec : Record) (ws : List ℕ) (a b : WideTick) (from to : ℕ) → touching_words rec ws a b ≡ Words from to →
+  pub inside : (rec : Record) (ws : List ℕ) (a b : WideTick) (from to : ℕ) → touching_words rec ws a b ≡ Ok (record { from = from; to = to }) →
       (j : ℕ) → j < rec.used → (touches a.0 b.0 (run_at ws (j * 3)) ≡ true) ↔ ((from ≤ j * 3) × (j * 3 + 3 ≤ to))
   -- where no used run touches, the part is empty
   pub none : (rec : Record) (ws : List ℕ) (a b : WideTick) → ((j : ℕ) → j < rec.used → touches a.0 b.0 (run_at ws (j * 3)) ≡ false) →
       part_of (touching_words rec ws a b) ws ≡ []
   -- and so it is where the call is refused
-  pub refused : (rec : Record) (ws : List ℕ) (a b : WideTick) (why : Refusal) → touching_words rec ws a b ≡ Refused why →
+  pub refused : (rec : Record) (ws : List ℕ) (a b : WideTick) (why : Refusal) → touching_words rec ws a b ≡ Err why →
       part_of (touching_words rec ws a b) ws ≡ []

@@ -1,24 +1,11 @@
 -- What the inner steps of availability and of the span ask and leave. It states no rule of the paper.
-use Rattle.std.specs.Prelude.{ℕ, ◌+◌, ◌*◌, ◌≤◌, ◌≡◌}
+use Rattle.std.specs.Prelude.{Result, Err, Ok, ℕ, ◌+◌, ◌*◌, ◌≤◌, ◌≡◌}
 use Rattle.units.specs.Limits.{largest_tick, largest_millis, largest_timescale, largest_span}
 use Rattle.window.specs.declared.Head.{Head}
 use Rattle.window.specs.declared.Reference.{Reference}
 use Rattle.window.specs.Window.{end_of}
-use Rattle.runs.specs.declared.Run.{Run}
-use Rattle.runs.specs.Ends.{Within}
-use Rattle.lookups.specs.declared.Numbered.{Numbered}
-use Rattle.lookups.specs.declared.Numbered.TheVariants.{Kept, Missing}
-use Rattle.lookups.specs.declared.Touching.{Touching}
-use Rattle.lookups.specs.declared.Touching.TheVariants.{Words, Refused}
-
--- a reference that was found is within the limits of its units
-abbrev pub FoundWithin : Numbered → Type 0
-FoundWithin Missing = Unit {0}
-FoundWithin (Kept r) = Within r
-
--- the reference of a run that stands behind n others
-abbrev pub behind : Run → ℕ → Reference
-behind r n = record { start = record { 0 = r.start.0 + r.span.0 * n }; span = r.span }
+use Rattle.lookups.specs.declared.Words.{Words}
+use Rattle.agreement.specs.declared.refusal.Refusal.{Refusal}
 
 -- availability's start and end, each moved on by the offset so that it is a natural number
 pub record Begins (h : Head) (r : Reference) (x : ℕ) : Type 0 where
@@ -30,6 +17,6 @@ pub record Stops (h : Head) (r : Reference) (x : ℕ) : Type 0 where
   pub small : x ≤ largest_millis * largest_timescale * 2 + largest_tick * 1000 + largest_span * 1000
 
 -- words that an answer names lie in a table of n words
-abbrev pub InTable : ℕ → Touching → Type 0
-InTable n (Words from to) = (from ≤ to) × (to ≤ n)
-InTable n (Refused r) = Unit {0}
+abbrev pub InTable : ℕ → Result Words Refusal → Type 0
+InTable n (Ok w) = (w.from ≤ w.to) × (w.to ≤ n)
+InTable n (Err r) = Unit {0}

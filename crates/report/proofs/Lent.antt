@@ -10,12 +10,12 @@ use Rattle.window.specs.declared.Head.{Head}
 use Rattle.units.specs.Limits.{tick_of}
 use Rattle.window.specs.Limits.{head_held}
 use Rattle.agreement.specs.declared.refusal.Refusal.TheVariants.{OverLimit, BadLine}
-use Rattle.keeping.specs.declared.Outcome.{Outcome}
-use Rattle.keeping.specs.declared.Outcome.TheVariants as outcome
+use Rattle.std.specs.Prelude.{Err, Ok, Option, Some, None}
+use Rattle.keeping.specs.Keeping.{Outcome}
 use Rattle.keeping.specs.Keeping.{words_by}
 use Rattle.timeline.specs.Opening.{fresh_record, open_outcome}
 use Rattle.frames.specs.declared.Frame.{Frame}
-use Rattle.frames.specs.declared.Frame.TheVariants.{Head as HeadFrame, S, End, Clock, Bad}
+use Rattle.frames.specs.declared.Frame.TheVariants.{Head as HeadFrame, S, End, Clock}
 use Rattle.frames.specs.declared.SFields.{SFields}
 use Rattle.frames.specs.Frames.{frame_of}
 use Rattle.file.specs.declared.Stage.{Stage}
@@ -63,29 +63,29 @@ module _ (r : Reading) (u v : List ℕ) (l : length u ≡ length v) where
       go true = record { reading = refl; words = l }
       go false = record { reading = refl; words = l }
 
-  nothing_same : (f : Frame) → Same (on_nothing r u f) (on_nothing r v f)
+  nothing_same : (f : Option Frame) → Same (on_nothing r u f) (on_nothing r v f)
   unfolding on_nothing
-  nothing_same (HeadFrame f) = head_same (head_in f)
-  nothing_same (S s) = record { reading = refl; words = l }
-  nothing_same (End n) = record { reading = refl; words = l }
-  nothing_same (Clock c) = record { reading = refl; words = l }
-  nothing_same Bad = record { reading = refl; words = l }
+  nothing_same (Some (HeadFrame f)) = head_same (head_in f)
+  nothing_same (Some (S s)) = record { reading = refl; words = l }
+  nothing_same (Some (End n)) = record { reading = refl; words = l }
+  nothing_same (Some (Clock c)) = record { reading = refl; words = l }
+  nothing_same None = record { reading = refl; words = l }
 
   opened_same : (o : Outcome) (s : SFields) → Same (opened_by o r u s) (opened_by o r v s)
-  opened_same outcome.Accepted s =
+  opened_same (Ok _) s =
       equal _ _
       (ap (λ (n : ℕ). take_s (record { stage = Headed; lines = r.lines; rec = fresh_record r.rec.head (tick_of (first_tick s.t)) }) (replicate n 0) Joins s) l)
-  opened_same (outcome.Refused why) s = record { reading = refl; words = l }
+  opened_same (Err why) s = record { reading = refl; words = l }
 
-  headed_same : (f : Frame) → Same (on_headed r u f) (on_headed r v f)
+  headed_same : (f : Option Frame) → Same (on_headed r u f) (on_headed r v f)
   unfolding on_headed take_first_s
-  headed_same (HeadFrame h) = record { reading = refl; words = l }
-  headed_same (S s) = opened_same (open_outcome r.rec.head (tick_of (first_tick s.t))) s
-  headed_same (End n) = record { reading = refl; words = l }
-  headed_same (Clock c) = record { reading = refl; words = l }
-  headed_same Bad = record { reading = refl; words = l }
+  headed_same (Some (HeadFrame h)) = record { reading = refl; words = l }
+  headed_same (Some (S s)) = opened_same (open_outcome r.rec.head (tick_of (first_tick s.t))) s
+  headed_same (Some (End n)) = record { reading = refl; words = l }
+  headed_same (Some (Clock c)) = record { reading = refl; words = l }
+  headed_same None = record { reading = refl; words = l }
 
-frame_same : (s : Stage) (r : Reading) → r.stage ≡ s → (u v : List ℕ) → Alike s u v → (f : Frame) → Same (on_frame s r u f) (on_frame s r v f)
+frame_same : (s : Stage) (r : Reading) → r.stage ≡ s → (u v : List ℕ) → Alike s u v → (f : Option Frame) → Same (on_frame s r u f) (on_frame s r v f)
 frame_same Nothing r e u v a f = nothing_same r u v a f
 frame_same Headed r e u v a f = headed_same r u v a f
 frame_same Open r e u v a f = equal _ _ (ap (λ (ws : List ℕ). on_frame Open r ws f) a)
@@ -124,7 +124,7 @@ module _ (u v : List ℕ) (l : length u ≡ length v) (bytes : List ℕ) where
       zeros_same : zeroed u ≡ zeroed v
       zeros_same = ap (λ (k : ℕ). replicate k 0) l
 
-      ended : (t : Bool) → a ≡ b → words_by (cond t outcome.Accepted (outcome.Refused BadLine)) a (zeroed u) ≡ words_by (cond t outcome.Accepted (outcome.Refused BadLine)) b (zeroed v)
+      ended : (t : Bool) → a ≡ b → words_by (cond t (Ok tt) (Err BadLine)) a (zeroed u) ≡ words_by (cond t (Ok tt) (Err BadLine)) b (zeroed v)
       ended true e = e
       ended false e = zeros_same
 

@@ -2,7 +2,6 @@
 pub mod Shown
 pub mod Clocks
 pub mod Desks
-pub mod Told
 pub mod Lent
 pub mod Pieces
 pub mod Settling

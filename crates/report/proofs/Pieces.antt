@@ -13,15 +13,15 @@ use Rattle.file.specs.Judging.{read_answer, read_table}
 use Rattle.file.specs.Feeding.{begun_reader, fed_reader, fed_table, reader_after, table_after}
 use Rattle.file.proofs.SoFar.{goes_on_lem}
 use Rattle.file.proofs.Pieces.{fed_begun_reader, fed_begun_table, fed_on_reader, fed_on_table, fed_finish_answer, fed_finish_table}
-use Rattle.wording.specs.declared.Reply.{Reply}
-use Rattle.wording.specs.Text.{text_of, over}
-use Rattle.report.specs.declared.ClockLine.{ClockLine}
-use Rattle.report.specs.declared.ClockLine.TheVariants.{Unended, At, Whole, Refused}
+use Rattle.std.specs.Prelude.{Err, None, Ok, Some, Result}
+use Rattle.agreement.specs.declared.refusal.Refusal.{Refusal}
+use Rattle.wording.specs.Text.{Reply, text_of, over}
+use Rattle.report.specs.declared.Asked.{Asked}
 use Rattle.report.specs.declared.Desk.{Desk}
-use Rattle.report.specs.Clock.{asked_on}
+use Rattle.report.specs.Clock.{ClockLine, asked_on}
 use Rattle.report.specs.Answer.{asked_in, file_read, reply_on, reply_in, table_in, answer_in, table_length}
 use Rattle.report.specs.Feeding.{DeskAndTable, with_more, with_end, begun_desk, read_on, line_on, fed, reply_by, table_by, fed_all, after_all, AnyPieces}
-use Rattle.report.proofs.Clocks.{first_asks, asks_some}
+use Rattle.report.proofs.Clocks.{first_asks}
 use Rattle.file.proofs.Cuts.{unfed_line, unfed_has, unfed_behind, fed_line, fed_has, fed_behind}
 use Rattle.report.proofs.Lent.{same_reply}
 
@@ -44,25 +44,19 @@ stand a line file came =
     record { desk = desk_at a line (cond (file_read a) (reader_after file came) begun_reader); words = cond (file_read a) (table_after file came) came }
 
 -- a piece of the file more
-read_more : (a : ClockLine) → (a ≡ Unended → ⊥) → (line file came piece : List ℕ) →
-    fed (stand a line file came).desk (stand a line file came).words piece ≡ stand a line (file ++ piece) came
+read_more : (a : Result Asked Refusal) (line file came piece : List ℕ) →
+    fed (stand (Some a) line file came).desk (stand (Some a) line file came).words piece ≡ stand (Some a) line (file ++ piece) came
 unfolding fed read_on
-read_more Unended n line file came piece = absurd (n refl)
-read_more (At clock) n line file came piece =
-    ap₂ (λ (r : Reader) (ws : List ℕ). record { desk = desk_at (At clock) line r; words = ws }) (fed_on_reader file came piece) (fed_on_table file came piece)
-read_more Whole n line file came piece =
-    ap₂ (λ (r : Reader) (ws : List ℕ). record { desk = desk_at Whole line r; words = ws }) (fed_on_reader file came piece) (fed_on_table file came piece)
-read_more (Refused why) n line file came piece = refl
+read_more (Ok asked) line file came piece =
+    ap₂ (λ (r : Reader) (ws : List ℕ). record { desk = desk_at (Some (Ok asked)) line r; words = ws }) (fed_on_reader file came piece) (fed_on_table file came piece)
+read_more (Err why) line file came piece = refl
 
 -- the first piece of the file
-read_first : (a : ClockLine) (line came piece : List ℕ) → read_on (desk_at a line begun_reader) came piece ≡ stand a line piece came
+read_first : (a : Result Asked Refusal) (line came piece : List ℕ) → read_on (desk_at (Some a) line begun_reader) came piece ≡ stand (Some a) line piece came
 unfolding read_on
-read_first Unended line came piece = refl
-read_first (At clock) line came piece =
-    ap₂ (λ (r : Reader) (ws : List ℕ). record { desk = desk_at (At clock) line r; words = ws }) (first_reader came piece) (first_table came piece)
-read_first Whole line came piece =
-    ap₂ (λ (r : Reader) (ws : List ℕ). record { desk = desk_at Whole line r; words = ws }) (first_reader came piece) (first_table came piece)
-read_first (Refused why) line came piece = refl
+read_first (Ok asked) line came piece =
+    ap₂ (λ (r : Reader) (ws : List ℕ). record { desk = desk_at (Some (Ok asked)) line r; words = ws }) (first_reader came piece) (first_table came piece)
+read_first (Err why) line came piece = refl
 
 -- ---- the clock line goes on
 
@@ -70,20 +64,24 @@ module _ (a : ClockLine) (line : List ℕ) (r : Reader) where
   with_more_lem : (part : List ℕ) → with_more (desk_at a line r) part ≡ desk_at a (line ++ part) r
   with_more_lem part = ap (λ (l : LineSoFar). record { asked = a; line = l; reader = r }) (goes_on_lem line part)
 
-  with_end_lem : with_end (desk_at a line r) ≡ desk_at (asked_on line) line r
-  with_end_lem = ap (λ (x : ClockLine). record { asked = x; line = so_far line; reader = r }) (first_asks line)
+  with_end_lem : with_end (desk_at a line r) ≡ desk_at (Some (asked_on line)) line r
+  with_end_lem = ap (λ (x : Result Asked Refusal). record { asked = Some x; line = so_far line; reader = r }) (first_asks line)
 
 line_more : (line came piece : List ℕ) →
-    line_on (desk_at Unended line begun_reader) came piece ≡
-    cond (has_feed piece) (stand (asked_on (line ++ first_line piece)) (line ++ first_line piece) (behind_first piece) came) (stand Unended (line ++ first_line piece) [] came)
+    line_on (desk_at None line begun_reader) came piece ≡
+    cond (has_feed piece) (stand (Some (asked_on (line ++ first_line piece))) (line ++ first_line piece) (behind_first piece) came) (stand None (line ++ first_line piece) [] came)
 unfolding line_on
 line_more line came piece =
-    ap (λ (d : Desk). cond (has_feed piece) (read_on (with_end d) came (behind_first piece)) (record { desk = d; words = came })) (with_more_lem Unended line begun_reader (first_line piece)) ∙
-    ap (λ (s : DeskAndTable). cond (has_feed piece) s (stand Unended (line ++ first_line piece) [] came))
-    (ap (λ (d : Desk). read_on d came (behind_first piece)) (with_end_lem Unended (line ++ first_line piece) begun_reader) ∙
+    ap (λ (d : Desk). cond (has_feed piece) (read_on (with_end d) came (behind_first piece)) (record { desk = d; words = came })) (with_more_lem None line begun_reader (first_line piece)) ∙
+    ap (λ (s : DeskAndTable). cond (has_feed piece) s (stand None (line ++ first_line piece) [] came))
+    (ap (λ (d : Desk). read_on d came (behind_first piece)) (with_end_lem None (line ++ first_line piece) begun_reader) ∙
     read_first (asked_on (line ++ first_line piece)) (line ++ first_line piece) came (behind_first piece))
 
 -- ---- a piece more of the input
+
+-- of a line that is ended
+abbrev pub asks_on : List ℕ → ClockLine
+asks_on line = Some (asked_on line)
 
 abbrev pub after : List ℕ → List ℕ → DeskAndTable
 after came input = stand (asked_in input) (first_line input) (behind_first input) came
@@ -101,30 +99,31 @@ module _ (came : List ℕ) where
   unfolding asked_in fed
   after_more input piece = go (has_feed input) refl
     where
-      asks : (xs : List ℕ) (t : Bool) → has_feed xs ≡ t → asked_in xs ≡ cond t (asked_on (first_line xs)) Unended
-      asks xs t e = ap (λ u. cond u (asked_on (first_line xs)) Unended) e
+      asks : (xs : List ℕ) (t : Bool) → has_feed xs ≡ t → asked_in xs ≡ cond t (Some (asked_on (first_line xs))) None
+      asks xs t e = ap (λ u. cond u (Some (asked_on (first_line xs))) None) e
 
       behind : (t : Bool) → has_feed piece ≡ t → has_feed input ≡ false →
-          cond t (stand (asked_on (first_line input ++ first_line piece)) (first_line input ++ first_line piece) (behind_first piece) came)
-          (stand Unended (first_line input ++ first_line piece) [] came) ≡
+          cond t (stand (Some (asked_on (first_line input ++ first_line piece))) (first_line input ++ first_line piece) (behind_first piece) came)
+          (stand None (first_line input ++ first_line piece) [] came) ≡
           after came (input ++ piece)
       behind true h e =
           let l = unfed_line input piece e in
-          same_stand (asked_on (first_line input ++ first_line piece)) (asked_in (input ++ piece)) _ _ _ _
-          (ap asked_on (sym l) ∙ sym (asks (input ++ piece) true (unfed_has input piece e ∙ h)))
+          same_stand (Some (asked_on (first_line input ++ first_line piece))) (asked_in (input ++ piece)) _ _ _ _
+          (ap asks_on (sym l) ∙ sym (asks (input ++ piece) true (unfed_has input piece e ∙ h)))
           (sym l)
           (sym (unfed_behind input piece e))
       behind false h e =
-          same_stand Unended (asked_in (input ++ piece)) (first_line input ++ first_line piece) (first_line (input ++ piece)) (behind_first (input ++ piece)) (behind_first (input ++ piece))
+          same_stand None (asked_in (input ++ piece)) (first_line input ++ first_line piece) (first_line (input ++ piece)) (behind_first (input ++ piece)) (behind_first (input ++ piece))
           (sym (asks (input ++ piece) false (unfed_has input piece e ∙ h)))
           (sym (unfed_line input piece e))
           refl
 
       go : (t : Bool) → has_feed input ≡ t → fed (after came input).desk (after came input).words piece ≡ after came (input ++ piece)
       go true e =
-          read_more (asked_in input) (λ u. asks_some (first_line input) (sym (asks input true e) ∙ u)) (first_line input) (behind_first input) came piece ∙
-          same_stand (asked_in input) (asked_in (input ++ piece)) _ _ _ _
-          (asks input true e ∙ ap asked_on (sym (fed_line input piece e)) ∙ sym (asks (input ++ piece) true (fed_has input piece e)))
+          ap (λ (a : ClockLine). fed (stand a (first_line input) (behind_first input) came).desk (stand a (first_line input) (behind_first input) came).words piece) (asks input true e) ∙
+          read_more (asked_on (first_line input)) (first_line input) (behind_first input) came piece ∙
+          same_stand (asks_on (first_line input)) (asked_in (input ++ piece)) _ _ _ _
+          (ap asks_on (sym (fed_line input piece e)) ∙ sym (asks (input ++ piece) true (fed_has input piece e)))
           (sym (fed_line input piece e))
           (sym (fed_behind input piece e))
       go false e =
@@ -148,18 +147,16 @@ module _ (came : List ℕ) where
 reply_at_lem : (a : ClockLine) (line file came : List ℕ) →
     reply_by (stand a line file came).desk (stand a line file came).words ≡ reply_on a (read_answer file came) (read_table file came)
 unfolding reply_by reply_on
-reply_at_lem Unended line file came = refl
-reply_at_lem (At clock) line file came =
-    ap₂ (λ (x : ReadAnswer) (ws : List ℕ). reply_on (At clock) x ws) (fed_finish_answer file came) (fed_finish_table file came)
-reply_at_lem Whole line file came = ap₂ (λ (x : ReadAnswer) (ws : List ℕ). reply_on Whole x ws) (fed_finish_answer file came) (fed_finish_table file came)
-reply_at_lem (Refused why) line file came = refl
+reply_at_lem None line file came = refl
+reply_at_lem (Some (Ok asked)) line file came =
+    ap₂ (λ (x : ReadAnswer) (ws : List ℕ). reply_on (Some (Ok asked)) x ws) (fed_finish_answer file came) (fed_finish_table file came)
+reply_at_lem (Some (Err why)) line file came = refl
 
 table_at : (a : ClockLine) (line file came : List ℕ) → table_by (stand a line file came).desk (stand a line file came).words ≡ cond (file_read a) (read_table file came) came
 unfolding table_by
-table_at Unended line file came = refl
-table_at (At clock) line file came = fed_finish_table file came
-table_at Whole line file came = fed_finish_table file came
-table_at (Refused why) line file came = refl
+table_at None line file came = refl
+table_at (Some (Ok asked)) line file came = fed_finish_table file came
+table_at (Some (Err why)) line file came = refl
 
 module _ (came : List ℕ) (pieces : List (List ℕ)) where
   pub pieces_reply : reply_by (after_all came pieces).desk (after_all came pieces).words ≡ reply_in came (all_bytes pieces)

@@ -3,9 +3,9 @@
 use mathlib.Core.Path.{◌≡◌, refl, sym, ap, ap₂, subst, ◌∙◌}
 use mathlib.Core.Bool.{Bool, true}
 use mathlib.Core.List.{List, [], ◌∷◌, ◌++◌, flatten as all_bytes, append_assoc, append-nil}
-use Prim.Native.Nat.{ℕ}
+use Prim.Native.Nat.{ℕ, ◌≤◌}
 use native.Mathlib.Omega.{arith}
-use lib.ListN.{length, take, drop}
+use lib.ListN.{length, take, drop, length-append}
 use lib.Seq.{take_at}
 use Rattle.std.specs.Prelude.{None, Some, IfSome, Result, Ok, Err, OnErr}
 use Rattle.std.specs.declared.option.Option.{Option}
@@ -13,13 +13,12 @@ use Rattle.std.specs.Io.KnownBytes.{Consumes, IsAtEnd}
 use Rattle.wording.specs.Text.{text_of, over}
 use Rattle.report.specs.declared.Desk.{Desk}
 use Rattle.report.specs.declared.Stopped.{Stopped}
-use Rattle.report.specs.declared.Stopped.TheVariants.{Ended, Settled, Failed}
+use Rattle.report.specs.declared.Stopped.TheVariants.{Ended, Settled}
 use Rattle.report.specs.declared.Fed.{Fed}
 use Rattle.report.specs.Answer.{table_length, answer}
 use Rattle.report.specs.Feeding.{DeskAndTable, begun_desk, fed, reply_by, fed_all}
 use Rattle.report.specs.Settled.{settled}
 use Rattle.report.specs.Running.{Brought, Reads, ReadsKnown, Left, Tells, Answered, AnswersKnown}
-use Rattle.report.proofs.Told.{told_within}
 use Rattle.report.proofs.Pieces.{any_pieces}
 use Rattle.report.proofs.Settling.{any_more}
 
@@ -28,14 +27,8 @@ use Rattle.report.proofs.Settling.{any_more}
 ended_settled : Ended ≡ Settled → ⊥
 ended_settled e = let z : ◌≡◌ {A = ℕ} 0 1 = cc in omega arith
 
-failed_settled : Failed ≡ Settled → ⊥
-failed_settled e = let z : ◌≡◌ {A = ℕ} 0 1 = cc in omega arith
-
 settled_ended : Settled ≡ Ended → ⊥
 settled_ended e = ended_settled (sym e)
-
-failed_ended : Failed ≡ Ended → ⊥
-failed_ended e = let z : ◌≡◌ {A = ℕ} 0 1 = cc in omega arith
 
 -- ---- some pieces, and one more
 
@@ -89,7 +82,7 @@ unfolding all_bytes brought_none
 turned_none known came buffer d l e = record { long = l; same = refl; brought = brought_none came d e; gave = given_none known }
 
 module _ (first now : Option (List ℕ)) (came table buffer : List ℕ) (d : Desk) (h : Turned first now came table buffer d) where
-  -- a read that fails leaves the table where it stood
+  -- a read that fails leaves the table where it stood, and so do turns that are used up
   pub left : Left came table
   left = record { desk = d; brought = h.brought }
 
@@ -110,9 +103,6 @@ module _ (first now : Option (List ℕ)) (came table buffer : List ℕ) (d : Des
   -- the reads stop
   pub reads_ended : Reads came (record { desk = d; stopped = Ended }) table
   reads_ended = record { brought = h.brought; settles = λ e. absurd (ended_settled e) }
-
-  pub reads_failed : Reads came (record { desk = d; stopped = Failed }) table
-  reads_failed = record { brought = h.brought; settles = λ e. absurd (failed_settled e) }
 
   pub reads_settled : (piece : List ℕ) (x : Desk) (vs : List ℕ) → x ≡ (fed d table piece).desk → vs ≡ (fed d table piece).words → (t : Bool) → t ≡ settled x → t ≡ true →
       Reads came (record { desk = x; stopped = Settled }) vs
@@ -151,17 +141,15 @@ known_settled (Some gs) now next came table buffer d h piece x vs g j k t m n =
     rest None c = absurd c
     rest (Some ys) c = (ys, c)
 
-pub known_failed : (first now : Option (List ℕ)) (came table buffer : List ℕ) (d : Desk) → Turned first now came table buffer d →
-    IfSome first (λ known. ReadsKnown known came (record { desk = d; stopped = Failed }) table)
-known_failed None now came table buffer d h = tt
-known_failed (Some gs) now came table buffer d h = record { brought = h.brought; ends = λ w. absurd (failed_ended w); settles = λ w. absurd (failed_settled w) }
-
 -- ---- the line that is told
 
 -- a text over the front of an output stands there
 module _ (text out after : List ℕ) (n : ℕ) (e : n ≡ length text) (f : after ≡ over text out) where
   told_there : take n after ≡ text
   told_there = ap (take n) f ∙ take_at text (drop (length text) out) n (sym e)
+
+  told_within : n ≤ length after
+  told_within = omega (arith, ap length f, length-append text (drop (length text) out))
 
 pub tells : (d : Desk) (ws out after : List ℕ) (n : ℕ) → n ≡ length (text_of (reply_by d ws)) → after ≡ over (text_of (reply_by d ws)) out → Tells d ws after n
 tells d ws out after n e f = record { within = told_within (text_of (reply_by d ws)) out after n e f; line = line; any = any }
@@ -182,11 +170,10 @@ answered came f ws out n l r t =
     record { within = t.within; pieces = b.pieces; line = t.line came l b; any = λ e more. t.any came l b (r.settles e) more }
 
 pub answered_known : (first : Option (List ℕ)) (came : List ℕ) (f : Fed) (ws out : List ℕ) (n : ℕ) → length came ≡ table_length → IfSome first (λ known. ReadsKnown known came f ws) → Tells f.desk ws out n →
-    IfSome first (λ known. AnswersKnown known f.stopped out n)
+    IfSome first (λ known. AnswersKnown known out n)
 answered_known None came f ws out n l r t = tt
 answered_known (Some known) came f ws out n l r t = why f.stopped refl
   where
-    why : (w : Stopped) → f.stopped ≡ w → (f.stopped ≡ Failed → ⊥) → take n out ≡ answer known
-    why Ended e kept = t.line came l r.brought ∙ ap answer (r.ends e)
-    why Settled e kept = let (s, rest, front) = r.settles e in t.any came l r.brought s rest ∙ ap answer (sym front)
-    why Failed e kept = absurd (kept e)
+    why : (w : Stopped) → f.stopped ≡ w → take n out ≡ answer known
+    why Ended e = t.line came l r.brought ∙ ap answer (r.ends e)
+    why Settled e = let (s, rest, front) = r.settles e in t.any came l r.brought s rest ∙ ap answer (sym front)

@@ -2,18 +2,14 @@
 -- ended, and the reader of the file. A piece that comes while the clock line is not ended is cut at its first feed: before it stands more of that line,
 -- behind it the file. From then on the pieces go to the reader, unless the clock line was refused. At the end comes the reply. Any desk and any table
 -- have an answer. Paper: The file (the program holds one line at a time and takes a file of any length).
-use Rattle.std.specs.Prelude.{ℕ, ◌≡◌, cond, length}
+use Rattle.std.specs.Prelude.{Some, None, ℕ, ◌≡◌, cond, length}
 use mathlib.Core.List.{List, [], ◌∷◌, flatten as all_bytes}
-use Rattle.units.specs.declared.Millis.{Millis}
 use Rattle.file.specs.Lines.{has_feed, first_line, behind_first}
 use Rattle.file.specs.SoFar.{so_far, first_bytes, goes_on}
 use Rattle.file.specs.Feeding.{begun_reader, fed_reader, fed_table, finish_answer, finish_table}
-use Rattle.wording.specs.declared.Reply.{Reply}
-use Rattle.wording.specs.Text.{text_of}
-use Rattle.report.specs.declared.ClockLine.{ClockLine}
-use Rattle.report.specs.declared.ClockLine.TheVariants.{Unended, At, Whole, Refused}
+use Rattle.wording.specs.Text.{Reply, text_of}
 use Rattle.report.specs.declared.Desk.{Desk}
-use Rattle.report.specs.Clock.{asked_on}
+use Rattle.report.specs.Clock.{ClockLine, asked_on}
 use Rattle.report.specs.Answer.{file_read, reply_on, table_length, table_in, answer}
 
 -- a desk and the words of its table
@@ -24,7 +20,7 @@ pub record DeskAndTable : Type 0 where
 -- ---- the pieces
 
 abbrev pub begun_desk : Desk
-begun_desk = record { asked = Unended; line = so_far []; reader = begun_reader }
+begun_desk = record { asked = None; line = so_far []; reader = begun_reader }
 
 -- a piece of the file
 unfoldable pub read_on : Desk → List ℕ → List ℕ → DeskAndTable
@@ -42,7 +38,7 @@ with_more d part = record { asked = d.asked; line = goes_on d.line part; reader 
 
 -- the clock line is ended: what it asks
 abbrev pub with_end : Desk → Desk
-with_end d = record { asked = asked_on (first_bytes d.line); line = d.line; reader = d.reader }
+with_end d = record { asked = Some (asked_on (first_bytes d.line)); line = d.line; reader = d.reader }
 
 -- a piece that comes while the clock line is not ended
 unfoldable pub line_on : Desk → List ℕ → List ℕ → DeskAndTable
@@ -52,22 +48,13 @@ line_on d ws piece =
     (record { desk = with_more d (first_line piece); words = ws })
 
 abbrev pub fed_by : ClockLine → Desk → List ℕ → List ℕ → DeskAndTable
-fed_by Unended d ws piece = line_on d ws piece
-fed_by (At clock) d ws piece = read_on d ws piece
-fed_by Whole d ws piece = read_on d ws piece
-fed_by (Refused why) d ws piece = read_on d ws piece
+fed_by None d ws piece = line_on d ws piece
+fed_by (Some asked) d ws piece = read_on d ws piece
 
 unfoldable pub fed : Desk → List ℕ → List ℕ → DeskAndTable
 fed d ws piece = fed_by d.asked d ws piece
 
 -- ---- the end of the input
-
--- the reply to a verdict that is asked
-abbrev pub reply_at : Desk → List ℕ → Millis → Reply
-reply_at d ws clock = reply_on (At clock) (finish_answer d.reader ws) (finish_table d.reader ws)
-
-abbrev pub reply_whole : Desk → List ℕ → Reply
-reply_whole d ws = reply_on Whole (finish_answer d.reader ws) (finish_table d.reader ws)
 
 unfoldable pub reply_by : Desk → List ℕ → Reply
 reply_by d ws = reply_on d.asked (finish_answer d.reader ws) (finish_table d.reader ws)

@@ -3,7 +3,7 @@ use Rattle.std.specs.Prelude.{ℕ, ◌≤◌, ◌≡◌, true, length, take}
 use mathlib.Core.List.{List, ◌++◌, flatten as all_bytes}
 use Rattle.report.specs.declared.Desk.{Desk}
 use Rattle.report.specs.declared.Stopped.{Stopped}
-use Rattle.report.specs.declared.Stopped.TheVariants.{Ended, Settled, Failed}
+use Rattle.report.specs.declared.Stopped.TheVariants.{Ended, Settled}
 use Rattle.report.specs.declared.Fed.{Fed}
 use Rattle.report.specs.Answer.{table_length, answer}
 use Rattle.report.specs.Feeding.{after_all}
@@ -26,11 +26,11 @@ pub record ReadsKnown (known came : List ℕ) (f : Fed) (ws : List ℕ) : Type 0
   pub ends : f.stopped ≡ Ended → all_bytes brought.pieces ≡ known
   pub settles : f.stopped ≡ Settled → (settled f.desk ≡ true) × (rest : List ℕ) × (known ≡ all_bytes brought.pieces ++ rest)
 
--- n bytes at the front of an output are the answer to all the bytes of a reader whose bytes are known, unless the turns were used up
-abbrev pub AnswersKnown : List ℕ → Stopped → List ℕ → ℕ → Type 0
-AnswersKnown known why out n = (why ≡ Failed → ⊥) → take n out ≡ answer known
+-- n bytes at the front of an output are the answer to all the bytes of a reader whose bytes are known
+abbrev pub AnswersKnown : List ℕ → List ℕ → ℕ → Type 0
+AnswersKnown known out n = take n out ≡ answer known
 
--- a read failed: the table stands where some pieces brought it, with some desk
+-- a read failed, or the turns are used up: the table stands where some pieces brought it, with some desk
 pub record Left (came ws : List ℕ) : Type 0 where
   pub desk : Desk
   pub brought : Brought came desk ws

@@ -3,30 +3,26 @@ ghost use Rattle.std.specs.Prelude.{◌≡◌};
 ghost use Rattle.file.specs.SoFar.{first_bytes};
 ghost use Rattle.report.specs.Clock.{asked_on};
 
-use crate::ClockLine;
+use crate::Asked;
 use agreement::Refusal;
 use file::LineSoFar;
 use frames::Frame;
-use units::{Millis, MillisMade};
+use units::{Limited, Millis};
 
 // A clock of all ones is the whole period.
-const WHOLE: u64 = 18_446_744_073_709_551_615;
+const WHOLE: u64 = u64::MAX;
 
 // What a line asks that is ended, by its first bytes.
-pub(crate) fn asked_on(line: LineSoFar) -> ClockLine
+#[tactic(auto, unfolding(crate::specs::Clock::asked_on))]
+pub(crate) fn asked_on(line: LineSoFar) -> Result<Asked, Refusal>
     ensures { result ≡ asked_on (first_bytes line) }
 {
-    let count = line.len();
-    let bytes = line.bytes;
-    let frame = frames::read_line(&bytes[..count]);
-    let Frame::Clock(clock) = frame else {
-        return ClockLine::Refused(Refusal::BadLine);
+    let Some(Frame::Clock(clock)) = frames::read_line(line.first_bytes()) else {
+        return Err(Refusal::BadLine);
     };
     if clock.0 == WHOLE {
-        return ClockLine::Whole;
+        return Ok(Asked::Whole);
     }
-    let MillisMade::Made(at) = Millis::new(clock.0) else {
-        return ClockLine::Refused(Refusal::ClockLimit);
-    };
-    ClockLine::At(at)
+    let at = Millis::new(clock.0).ok_or(Refusal::ClockLimit)?;
+    Ok(Asked::At(at))
 }

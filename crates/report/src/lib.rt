@@ -14,32 +14,28 @@ pub use feeding::{begin, feed, settled};
 pub use replying::{answer, answer_whole};
 pub use running::run;
 
-// What the clock line asks: nothing yet, since it is not ended; a verdict at a clock, or of the whole
-// period; or the line is refused.
+// The verdict that is asked: at a clock, or of the whole period.
 #[derive(Clone, Copy)]
-pub enum ClockLine {
-    Unended,
+pub enum Asked {
     At(Millis),
     Whole,
-    Refused(Refusal),
 }
 
-// How far the input is read: what its clock line asks, that line while it is not ended, and the reader
-// of the file.
+// How far the input is read: what its clock line asks, or why that line is refused, once it is ended; that
+// line until it is; and the reader of the file.
 #[derive(Clone, Copy)]
 pub struct Desk {
-    pub asked: ClockLine,
+    pub asked: Option<Result<Asked, Refusal>>,
     pub line: file::LineSoFar,
     pub reader: file::Reader,
 }
 
-// Why the program stopped reading: its input has ended, its answer is settled, or the turns
-// of its loop are used up. A read that failed is an error.
+// Why the program stopped reading: its input has ended, or its answer is settled. A read that failed is an
+// error, and so are turns of its loop that are used up.
 #[derive(Clone, Copy)]
 pub enum Stopped {
     Ended,
     Settled,
-    Failed,
 }
 
 // The desk when the reads stopped, and why they did.

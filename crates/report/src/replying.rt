@@ -1,57 +1,50 @@
 // The end of the input: the file is read to its end, the verdict is asked, and the reply is written.
 ghost use Rattle.std.specs.Prelude.{◌≡◌, length};
-ghost use Rattle.file.specs.Feeding.{finish_table};
 ghost use Rattle.wording.specs.Text.{text_of, over};
-ghost use Rattle.report.specs.Answer.{reply_read, table_in, answer_in};
-ghost use Rattle.report.specs.Feeding.{reply_at, reply_whole, reply_by, table_by};
+ghost use Rattle.report.specs.Answer.{refused_at, verdict_asked, table_in, answer_in};
+ghost use Rattle.report.specs.Feeding.{reply_by, table_by};
 
-use crate::{ClockLine, Desk, feeding};
-use agreement::Refusal;
+use crate::{Asked, Desk, feeding};
+use agreement::{Record, Refusal};
 use answers::Verdict;
-use file::ReadAnswer;
-use keeping::Outcome;
-use units::{Millis, WideMillis};
-use wording::Reply;
+use units::WideMillis;
+use wording::{RefusedLine, Reply};
 
-// What was read is judged, unless it was refused.
-fn reply_read(read: ReadAnswer, verdict: Verdict) -> Reply
-    ensures { result ≡ reply_read read.outcome read.line verdict }
-{
-    let outcome = read.outcome;
-    match outcome {
-        Outcome::Accepted => Reply::Judged(verdict),
-        Outcome::Refused(why) => Reply::Refused(why, read.line),
+impl Asked {
+    // The verdict that is asked.
+    fn verdict(self, rec: Record, table: &[u64]) -> Result<Verdict, Refusal>
+        ensures { result ≡ verdict_asked self rec table.now }
+    {
+        match self {
+            Asked::At(clock) => answers::verdicts::verdict(rec, table, WideMillis(clock.0)),
+            Asked::Whole => answers::verdicts::verdict_whole(rec, table),
+        }
     }
 }
 
-fn reply_at(desk: Desk, table: &mut [u64], clock: Millis) -> Reply
-    ensures value { result ≡ reply_at desk table.old clock }
-    ensures table_after { table.new ≡ finish_table desk.reader table.old }
+fn refused_at(why: Refusal, line: u64) -> Reply
+    ensures { result ≡ refused_at why line }
 {
-    let read = file::finish(desk.reader, table);
-    let verdict = answers::verdicts::verdict(read.rec, table, WideMillis(clock.0));
-    reply_read(read, verdict)
+    Err(RefusedLine { why, line })
 }
 
-fn reply_whole(desk: Desk, table: &mut [u64]) -> Reply
-    ensures value { result ≡ reply_whole desk table.old }
-    ensures table_after { table.new ≡ finish_table desk.reader table.old }
-{
-    let read = file::finish(desk.reader, table);
-    let verdict = answers::verdicts::verdict_whole(read.rec, table);
-    reply_read(read, verdict)
-}
-
+// A refused clock line and a refused verdict are told at line 0, a refused file at its line.
+#[tactic(auto, unfolding(crate::specs::Feeding::reply_by, crate::specs::Feeding::table_by, crate::specs::Answer::reply_on))]
 fn reply(desk: Desk, table: &mut [u64]) -> Reply
     ensures value { result ≡ reply_by desk table.old }
     ensures table_after { table.new ≡ table_by desk table.old }
 {
-    let asked = desk.asked;
-    match asked {
-        ClockLine::Unended => Reply::Refused(Refusal::BadLine, 0),
-        ClockLine::At(clock) => reply_at(desk, table, clock),
-        ClockLine::Whole => reply_whole(desk, table),
-        ClockLine::Refused(why) => Reply::Refused(why, 0),
+    let asked = match desk.asked {
+        Some(Ok(asked)) => asked,
+        Some(Err(why)) => return refused_at(why, 0),
+        None => return refused_at(Refusal::BadLine, 0),
+    };
+    let read = file::finish(desk.reader, table);
+    match read.outcome {
+        Ok(()) => asked
+            .verdict(read.rec, table)
+            .or_else(|why| refused_at(why, 0)),
+        Err(why) => refused_at(why, read.line),
     }
 }
 

@@ -53,7 +53,7 @@ impl<'a, R: Input + Files> Read for StandardInput<'a, R> {
 }
 
 // A read that brings nothing ends the input. One that fails never passes for that end, and neither do
-// turns that are used up, which are counted as above.
+// turns that are used up, which are counted as above: both are errors.
 fn feed_all<R: Read>(input: &mut R, table: &mut [u64]) -> io::Result<Fed>
     ensures fed { IfOk result (λ fed. Reads table.old fed table.new) }
     ensures known { IfOk result (λ fed. IfSome (R.remaining input.old) (λ known. ReadsKnown known table.old fed table.new)) }
@@ -77,10 +77,7 @@ fn feed_all<R: Read>(input: &mut R, table: &mut [u64]) -> io::Result<Fed>
             });
         }
     }
-    Ok(Fed {
-        desk,
-        stopped: Stopped::Failed,
-    })
+    Err(io::Error::from(ErrorKind::TimedOut))
 }
 
 // The line to the pieces that brought desk and table where they stand, whichever they are.
@@ -93,13 +90,12 @@ fn tell(desk: Desk, table: &mut [u64], out: &mut [u8; 93]) -> usize
 // Reads an input until its answer is certain, and makes the line.
 fn answer_input<R: Read>(input: &mut R, out: &mut [u8; 93]) -> io::Result<Made>
     ensures answered { IfOk result (λ made. Answered made.stopped out.new made.count) }
-    ensures known { IfOk result (λ made. IfSome (R.remaining input.old) (λ known. AnswersKnown known made.stopped out.new made.count)) }
+    ensures known { IfOk result (λ made. IfSome (R.remaining input.old) (λ known. AnswersKnown known out.new made.count)) }
     ensures failed { OnErr result (out.new ≡ out.old) }
 {
     let mut table = [0u64; 3072];
-    let fed = feed_all(input, &mut table)?;
-    let stopped = fed.stopped;
-    let count = tell(fed.desk, &mut table, out);
+    let Fed { desk, stopped } = feed_all(input, &mut table)?;
+    let count = tell(desk, &mut table, out);
     Ok(Made { count, stopped })
 }
 
@@ -121,14 +117,8 @@ fn tell_failure(rt: &impl Eprint, what: &str, failure: io::Error) -> io::Error {
 // read failed there is none. What failed is told on standard error, and is what the program ends with.
 pub fn run<R: Input + Files + Print + Eprint>(rt: &R) -> io::Result<()> {
     let mut line = [0u8; 93];
-    let made = match read_and_answer(rt, &mut line) {
-        Ok(made) => made,
-        Err(failure) => return Err(tell_failure(rt, "reading standard input", failure)),
-    };
-    if let Stopped::Failed = made.stopped {
-        let failure = io::Error::from(ErrorKind::TimedOut);
-        return Err(tell_failure(rt, "reading standard input", failure));
-    }
+    let read = read_and_answer(rt, &mut line);
+    let made = read.map_err(|failure| tell_failure(rt, "reading standard input", failure))?;
     let written = rt.write_all(&line[..made.count]);
     written.map_err(|failure| tell_failure(rt, "writing standard output", failure))
 }

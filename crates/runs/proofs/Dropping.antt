@@ -2,10 +2,10 @@
 use mathlib.Core.Path.{◌≡◌, refl, sym, ap, ap₂, ◌∙◌}
 use mathlib.Core.Bool.{true}
 use Prim.Native.Nat.{ℕ, zero, suc, ◌+◌, ◌-◌, ◌*◌, ◌≤◌, ◌<◌}
-use native.Mathlib.Nat.{mul-sub, mul-le-mul_left, le_of_lt}
+use native.Mathlib.Nat.{le_of_lt}
 use native.Mathlib.Omega.{arith}
 use mathlib.Core.List.{List, [], ◌∷◌, ◌++◌}
-use lib.ListN.{length, take, drop, replicate, length-append, length-take, length-drop, take-append-drop, replicate-append-replicate}
+use lib.ListN.{length, take, drop, replicate, length-append, length-drop, take-append-drop, replicate-append-replicate}
 use lib.Seq.{take_at, drop_at, drop-append-add, drop-append-le, drop-drop, drop-nil}
 use borrow.Rule.Slice.PartMut.{mid_of, put_mid, Post-is, mid_len}
 use Rattle.units.specs.declared.Span.{Span}
@@ -17,7 +17,7 @@ use Rattle.runs.specs.Shape.{shaped, runs_shaped}
 use Rattle.runs.specs.Steps.{with_run, Less, CutAt}
 use Rattle.runs.proofs.Opening.{runs_length, words_length, repeated_length, references_in}
 use Rattle.runs.proofs.Encoded.{leads, led, fresh, starts, follow, encoded, shaped_drop}
-use Rattle.runs.proofs.Tables.{used_words, runs_shaped_lem, table_is, table_length_lem}
+use Rattle.runs.proofs.Tables.{used_words, runs_shaped_lem, table_is}
 use Rattle.runs.proofs.EndToStart.{references_append, repeated_drop}
 
 -- ---- whole runs
@@ -56,14 +56,8 @@ module _ (used dropped : ℕ) (ws : List ℕ) (shape : shaped used ws ≡ true) 
   removed_none e = table_is used ws shape ∙ ap (λ n. table_of (length ws) (drop n (runs_of used ws))) (sym e)
 
   module _ (l : dropped ≤ used) where
-    pub moved_there : dropped * 3 + (used - dropped) * 3 ≤ length ws
-    moved_there = omega (arith, used_words used ws shape)
-
     -- the words after the move and the clearing, as the code leaves them
     module _ (moved : List ℕ) (m : moved ≡ take ((used - dropped) * 3) (drop (dropped * 3) ws) ++ drop ((used - dropped) * 3) ws) where
-      pub cleared_there : used * 3 ≤ length moved
-      cleared_there = rw m (simp (length-append, length-take, length-drop) (omega (arith, used_words used ws shape)))
-
       pub removed : (part : List ℕ) → part ≡ replicate (length (mid_of ((used - dropped) * 3) (used * 3 - (used - dropped) * 3) moved)) 0 →
           put_mid ((used - dropped) * 3) (used * 3 - (used - dropped) * 3) moved part ≡ table_of (length ws) (drop dropped (runs_of used ws))
       unfolding table_of
@@ -80,15 +74,6 @@ module _ (used dropped : ℕ) (ws : List ℕ) (shape : shaped used ws ≡ true) 
           ap₂ (λ t u. t ++ u) (words_drop dropped rs) (replicate-append-replicate (dropped * 3) rest 0 ∙ ap (λ k. replicate k 0) left)
 
 -- ---- a run less its first references
-
-pub less_made : (n : ℕ) (x : Run) → n ≤ x.count →
-    Less n x (record { start = record { 0 = x.start.0 + x.span.0 * n }; span = x.span; count = x.count - n })
-less_made n x l =
-    record {
-      span = refl;
-      ends = omega (arith, mul-sub x.span.0 x.count n, mul-le-mul_left x.span.0 l);
-      count = omega arith;
-    }
 
 less_shaped : (n : ℕ) (x r : Run) (xs : List Run) → Less n x r → n < x.count → runs_shaped (x ∷ xs) ≡ true → runs_shaped (r ∷ xs) ≡ true
 less_shaped n x r xs f l t =
@@ -170,13 +155,6 @@ module _ (used dropped whole into left : ℕ) (ws table : List ℕ) (shape : sha
   -- ---- the first run left is shortened
 
   module _ (some : left ≡ 0 → ⊥) where
-    pub first_there : 2 < length table
-    unfolding behind
-    first_there =
-        let long : length table ≡ length ws =
-        ap length is ∙ table_length_lem (length ws) behind (omega (arith, behind_length, used_words used ws shape)) in
-        omega (arith, used_words used ws shape)
-
     module _ (first : Run) (f : first ≡ run_at table 0) where
       opens : behind ≡ first ∷ drop 1 behind
       unfolding behind table_of words_of

@@ -3,7 +3,7 @@
 use mathlib.Core.Path.{◌≡◌, refl, sym, ap, ◌∙◌}
 use mathlib.Core.Bool.{Bool, true, false, cond}
 use Prim.Native.Nat.{ℕ, zero, suc, ◌+◌, ◌-◌, ◌*◌, ◌/◌, ◌≤◌, ◌<◌, min}
-use native.Mathlib.Nat.{div-eq-sub-div, div-eq_of_lt, div-lt_iff_lt-mul, zero-min, min-zero, suc-min-suc, zero-div, min-eq_left, min-eq_right, mul_comm, le_of_lt}
+use native.Mathlib.Nat.{div-eq-sub-div, div-eq_of_lt, div-lt_iff_lt-mul, zero-min, min-zero, suc-min-suc, zero-div, mul_comm}
 use native.Mathlib.Numerals.{add-one}
 use native.Mathlib.Omega.{arith}
 use mathlib.Core.List.{List, [], ◌∷◌, ◌++◌}
@@ -15,7 +15,6 @@ use Rattle.window.specs.Window.{end_of}
 use Rattle.window.specs.References.{EndToStart}
 use Rattle.runs.specs.Words.{repeated}
 use Rattle.runs.specs.Steps.{passed_upto}
-use Rattle.runs.proofs.EndToStart.{repeated_join}
 
 module _ (t : ℕ) where
   pub passed_append : (xs ys : List Reference) → passed_upto t (xs ++ ys) ≡ passed_upto t xs + passed_upto t ys
@@ -67,17 +66,6 @@ module _ (t : ℕ) where
           ap (min n) (zero-div d) ∙
           min-zero n ∙
           sym (ap (min (suc n)) (div-eq_of_lt (omega arith)) ∙ min-zero (suc n))
-
-  -- ---- the same, as a test finds it
-
-  pub passed_none : (s d n : ℕ) → t < s → 0 ≡ passed_upto t (repeated s d n)
-  passed_none s d n l = sym (none_upto s (repeated s d n) (repeated_join s d n) l)
-
-  pub passed_part : (s d n : ℕ) → 1 ≤ d → (t - s) / d < n → (t - s) / d ≡ passed_upto t (repeated s d n)
-  passed_part s d n some l = sym (passed_quotient s d n some ∙ min-eq_right (le_of_lt l))
-
-  pub passed_all : (s d n : ℕ) → 1 ≤ d → n ≤ (t - s) / d → n ≡ passed_upto t (repeated s d n)
-  passed_all s d n some l = sym (passed_quotient s d n some ∙ min-eq_left l)
 
   -- not all have passed: their end lies past t
   pub ends_past : (s d n : ℕ) → 1 ≤ d → passed_upto t (repeated s d n) < n → t < s + d * n

@@ -8,3 +8,4 @@ pub mod Moving
 pub mod Walking
 pub mod Dropping
 pub mod Storing
+pub mod Walked

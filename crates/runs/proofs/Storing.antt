@@ -1,7 +1,7 @@
 -- References stored at the end: the last run is made longer, or a run is put behind it.
 use mathlib.Core.Path.{◌≡◌, refl, sym, ap, ap₂, ◌∙◌}
 use mathlib.Core.Bool.{Bool, true, false, cond, ◌||◌, not, false≢true}
-use Prim.Native.Nat.{ℕ, ◌+◌, ◌-◌, ◌*◌, ◌^◌, ◌≤◌, ◌<◌}
+use Prim.Native.Nat.{ℕ, ◌+◌, ◌-◌, ◌*◌, ◌≤◌, ◌<◌}
 use native.Mathlib.Nat.{mul-le-mul_right}
 use native.Mathlib.Omega.{arith}
 use mathlib.Core.List.{List, [], ◌∷◌, ◌++◌, append_assoc}
@@ -137,9 +137,6 @@ module _ (used : ℕ) (ws : List ℕ) where
       ap (λ (x : Run). not (eqb x.span.0 d)) e ∙
       sym (ap (λ t. t || not (eqb (last_run used ws).span.0 d)) (ne_eqb used 0 some))
 
-  pub last_there : (used ≡ 0 → ⊥) → shaped used ws ≡ true → used * 3 - 3 + 2 < length ws
-  last_there some t = omega (arith, used_words used ws t)
-
 -- ---- references behind those that a table keeps
 
 module _ (used : ℕ) (ws : List ℕ) (start : Tick) (span : Span) (count : ℕ) (s : Storable used ws start span count) where
@@ -237,9 +234,6 @@ module _ (used : ℕ) (ws : List ℕ) (start : Tick) (span : Span) (count : ℕ)
         pub more_there : used * 3 + 2 < length ws
         more_there = omega (arith, more_used, room)
 
-        pub more_fits : length ws < 2 ^ 64 → Fits w64 (used + 1)
-        more_fits small = record { fits = omega (arith, more_used, room) }
-
         pub more_stored : (after : List ℕ) → after ≡ with_run ws (used * 3) (record { start = start; span = span; count = count }) →
             after ≡ canonical (length ws) (kept_with used ws start span count)
         unfolding new
@@ -256,12 +250,6 @@ module _ (used : ℕ) (ws : List ℕ) (start : Tick) (span : Span) (count : ℕ)
 
       pub longer_used : used ≡ runs_for (kept_with used ws start span count)
       longer_used = sym (runs_needed ∙ ap (λ u. cond u (used + 1) used) no_need)
-
-      pub last_some : 3 ≤ used * 3
-      last_some = let some : used ≡ 0 → ⊥ = used_some no_need in omega arith
-
-      pub last_place : used * 3 - 3 + 2 < length ws
-      last_place = last_there used ws (used_some no_need) s.table
 
       module _ (r : Run) (i : r ≡ run_at ws (used * 3 - 3)) where
         -- each takes a tick, so neither count is beyond the ticks

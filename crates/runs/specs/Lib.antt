@@ -3,3 +3,4 @@ pub mod Encoding
 pub mod Shape
 pub mod Ends
 pub mod Steps
+pub mod Walk

@@ -28,6 +28,10 @@ capacity ws = length ws / 3
 abbrev pub run_end : Run → ℕ
 run_end r = r.start.0 + r.span.0 * r.count
 
+-- the reference of a run that stands behind n others
+abbrev pub reference_behind : Run → ℕ → Reference
+reference_behind r n = record { start = record { 0 = r.start.0 + r.span.0 * n }; span = r.span }
+
 -- so many references of d ticks each, the first at tick s
 unfoldable pub repeated : ℕ → ℕ → ℕ → List Reference
 repeated s d zero = []

@@ -1,13 +1,12 @@
 // The words of a table as runs: reading and writing a run, counting the references that have passed,
 // dropping references from the front and storing them at the end.
-ghost use Rattle.std.specs.Prelude.{◌≡◌, true, ◌++◌, ◌+◌, ◌-◌, ◌*◌, ◌≤◌, ◌<◌, length, take, drop, replicate};
-ghost use Rattle.units.specs.Limits.{largest_tick};
-ghost use Rattle.runs.specs.Words.{run_at, runs_of, capacity, run_end, repeated, kept_in};
+ghost use Rattle.std.specs.Prelude.{◌≡◌, true, ◌+◌, ◌-◌, ◌≤◌, ◌<◌, length, drop, replicate};
+ghost use Rattle.runs.specs.Words.{run_at, runs_of, capacity, kept_in};
 ghost use Rattle.runs.specs.Encoding.{runs_for, table_of, canonical, needs_run};
 ghost use Rattle.runs.specs.Shape.{shaped};
-ghost use Rattle.runs.specs.Steps.{passed_upto, with_run, Less, CutAt, kept_with, Storable};
+ghost use Rattle.runs.specs.Steps.{passed_upto, with_run, CutAt, kept_with, Storable};
 
-use crate::Run;
+use crate::{Run, Runs};
 use units::{Span, Tick, WideTick};
 
 // Where a drop cuts the runs: so many whole runs go, and so many references of the run behind them.
@@ -39,21 +38,6 @@ fn put_run(table: &mut [u64], i: usize, run: Run)
     table[i + 2] = run.count;
 }
 
-// Inner, since a reference must last: how many of a run's references have passed by a tick.
-pub fn passed_in(run: Run, t: WideTick) -> u64
-    requires { 1 ≤ run.span.0 }
-    ensures { result ≡ passed_upto t.0 (repeated run.start.0 run.span.0 run.count) }
-{
-    if t.0 < run.start.0 {
-        return 0;
-    }
-    let passed = (t.0 - run.start.0) / run.span.0;
-    if passed < run.count {
-        return passed;
-    }
-    run.count
-}
-
 // Inner, since the table must be shaped: how many kept references have passed by a tick. The first
 // run that has not passed whole is the last to look at, since those behind it end later.
 pub fn passed_upto(table: &[u64], used: usize, t: WideTick) -> u64
@@ -61,15 +45,12 @@ pub fn passed_upto(table: &[u64], used: usize, t: WideTick) -> u64
     ensures { result ≡ passed_upto t.0 (kept_in used table.now) }
 {
     let mut passed = 0;
-    let mut whole = 0;
-    while whole < used {
-        let run = run_at(table, whole * 3);
-        let here = passed_in(run, t);
+    for run in Runs::of(table, used) {
+        let here = run.passed_by(t);
         if here < run.count {
             return passed + here;
         }
         passed += here;
-        whole += 1;
     }
     passed
 }
@@ -79,40 +60,21 @@ fn cut_at(table: &[u64], used: usize, dropped: u64) -> Cut
     requires { shaped used table.now ≡ true }
     ensures { CutAt dropped (runs_of used table.now) result.whole result.into }
 {
-    let mut whole = 0;
     let mut into = dropped;
-    while whole < used {
-        let run = run_at(table, whole * 3);
+    for (whole, run) in Runs::of(table, used).enumerate() {
         if into < run.count {
             return Cut { whole, into };
         }
         into -= run.count;
-        whole += 1;
     }
-    Cut { whole, into }
-}
-
-// Inner, since the words must be there: moves so many words from a place down to the front.
-fn move_down(table: &mut [u64], from: usize, words: usize)
-    requires { from + words ≤ length table.old }
-    ensures { table.new ≡ take words (drop from table.old) ++ drop words table.old }
-{
-    let mut i = 0;
-    while i < words {
-        table[i] = table[from + i];
-        i += 1;
-    }
+    Cut { whole: used, into }
 }
 
 // Inner, as a step of opening and dropping: sets every word to 0.
 pub fn clear(words: &mut [u64])
     ensures { words.new ≡ replicate (length words.old) 0 }
 {
-    let mut i = 0;
-    while i < words.len() {
-        words[i] = 0;
-        i += 1;
-    }
+    words.fill(0);
 }
 
 // Inner, since the table must be shaped and have the runs: removes whole runs from the front, and
@@ -129,23 +91,9 @@ fn remove_runs(table: &mut [u64], used: usize, dropped: usize) -> usize
     let left = used - dropped;
     let words = left * 3;
     let end = used * 3;
-    move_down(table, dropped * 3, words);
+    table.copy_within(dropped * 3..end, 0);
     clear(&mut table[words..end]);
     left
-}
-
-// Inner, since the run must have them and end within the limit: a run less its first references. Its
-// start moves on, and its end stays.
-fn less_first(run: Run, dropped: u64) -> Run
-    requires { (dropped ≤ run.count) × (run_end run ≤ largest_tick) }
-    ensures { Less dropped run result }
-{
-    let span = run.span;
-    Run {
-        start: Tick(run.start.0 + span.0 * dropped),
-        span,
-        count: run.count - dropped,
-    }
 }
 
 // Inner, since the table must be shaped: drops references from the front, and answers how many runs
@@ -161,7 +109,7 @@ pub fn drop_front(table: &mut [u64], used: usize, dropped: u64) -> usize
         return 0;
     }
     let first = run_at(table, 0);
-    put_run(table, 0, less_first(first, cut.into));
+    put_run(table, 0, first.less_first(cut.into));
     left
 }
 
@@ -170,11 +118,7 @@ pub fn needs_run(table: &[u64], used: usize, span: Span) -> bool
     requires { shaped used table.now ≡ true }
     ensures { result ≡ needs_run used table.now span.0 }
 {
-    if used == 0 {
-        return true;
-    }
-    let last = run_at(table, used * 3 - 3);
-    last.span.0 != span.0
+    used == 0 || run_at(table, used * 3 - 3).span.0 != span.0
 }
 
 // Inner, since the references must join, be within the limits and find room: stores them behind those
@@ -191,9 +135,7 @@ pub fn store(table: &mut [u64], used: usize, start: Tick, span: Span, count: u64
     }
     let place = used * 3 - 3;
     let last = run_at(table, place);
-    let start = last.start;
-    let span = last.span;
     let count = last.count + count;
-    put_run(table, place, Run { start, span, count });
+    put_run(table, place, Run { count, ..last });
     used
 }

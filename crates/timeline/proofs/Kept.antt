@@ -3,7 +3,7 @@ use mathlib.Core.Path.{◌≡◌, refl, sym, ap, ap₂, subst⁻¹, ◌∙◌}
 use mathlib.Core.Bool.{Bool, true, false, cond, ◌&&◌, ◌||◌, and-eq-true_iff, true≢false}
 use mathlib.Core.List.{List, [], append-nil, ◌++◌}
 use Prim.Native.Nat.{ℕ, ◌+◌, ◌-◌, ◌*◌, ◌/◌, ◌≤◌}
-use native.Mathlib.Nat.{max-le, sub-zero, suc-ne-zero, le_trans, le-max_left}
+use native.Mathlib.Nat.{max-le, sub-zero, le_trans, le-max_left}
 use native.Mathlib.Omega.{arith}
 use borrow.Author.Tests.{leb-true, le-leb, eqb-false}
 use lib.Dec.{leb, eqb}
@@ -29,8 +29,8 @@ use Rattle.agreement.proofs.Judging.{record_held_lem}
 use Rattle.agreement.proofs.Agreeing.{Agreeing, agreeing}
 use Rattle.agreement.specs.declared.refusal.Refusal.TheVariants as refusal
 use Rattle.agreement.specs.declared.refusal.Refusal.TheVariants.{OverLimit}
-use Rattle.keeping.specs.declared.Outcome.{Outcome}
-use Rattle.keeping.specs.declared.Outcome.TheVariants.{Accepted, Refused}
+use Rattle.std.specs.Prelude.{Err, Ok}
+use Rattle.keeping.specs.Keeping.{Outcome}
 use Rattle.keeping.specs.Append.{given, all_of, unspent_of, room_outcome, fit_outcome, appended}
 use Rattle.keeping.specs.Steps.{Fitting}
 use Rattle.keeping.specs.Keeping.{unspent, words_keeping, changed_by, words_by}
@@ -43,14 +43,10 @@ use Rattle.timeline.specs.Appending.{unjoined◌else◌, append_outcome, append_
 
 -- ---- opening
 
-module _ (h : Head) (t : Tick) (words : ℕ) (o : open_outcome h t ≡ Accepted) where
+module _ (h : Head) (t : Tick) (words : ℕ) (o : open_outcome h t ≡ Ok tt) where
   open_held : (head_held h ≡ true) × (tick_held t ≡ true)
   unfolding open_outcome
-  open_held = (and-eq-true_iff (head_held h) (tick_held t)).0 (go (head_held h && tick_held t) o)
-    where
-      go : (b : Bool) → cond b Accepted (Refused OverLimit) ≡ Accepted → b ≡ true
-      go true e = refl
-      go false e = let z : ◌≡◌ {A = ℕ} 0 1 = cc in absurd (suc-ne-zero 0 (sym z))
+  open_held = (and-eq-true_iff (head_held h) (tick_held t)).0 (past_if (head_held h && tick_held t) (Ok tt) OverLimit o).0
 
   fresh_held : record_held (fresh_record h t) ≡ true
   fresh_held =
@@ -112,11 +108,11 @@ module _ (rec : Record) (ws : List ℕ) (c : WideMillis) (a : agrees rec ws ≡ 
   trim_clock_grows = le-max_left rec.clock.0 c.0
 
 -- what an accepted trim has passed
-pub trim_passed : (rec : Record) (ws : List ℕ) (c : WideMillis) → trim_outcome rec ws c ≡ Accepted → (agrees rec ws ≡ true) × (c.0 ≤ largest_millis)
+pub trim_passed : (rec : Record) (ws : List ℕ) (c : WideMillis) → trim_outcome rec ws c ≡ Ok tt → (agrees rec ws ≡ true) × (c.0 ≤ largest_millis)
 unfolding trim_outcome
 trim_passed rec ws c o =
-    let a = past_if (agrees rec ws) (cond (clock_held c) Accepted (Refused refusal.ClockLimit)) refusal.Disagreement o in
-    (a.0, leb-true c.0 largest_millis (past_if (clock_held c) Accepted refusal.ClockLimit a.1).0)
+    let a = past_if (agrees rec ws) (cond (clock_held c) (Ok tt) (Err refusal.ClockLimit)) refusal.Disagreement o in
+    (a.0, leb-true c.0 largest_millis (past_if (clock_held c) (Ok tt) refusal.ClockLimit a.1).0)
 
 -- accepted or refused, it leaves what agrees
 pub trim_leaves_lem : (rec : Record) (ws : List ℕ) (c : WideMillis) → agrees rec ws ≡ true → agrees (trim_answer rec ws c).rec (trim_table rec ws c) ≡ true
@@ -125,12 +121,12 @@ trim_leaves_lem rec ws c a = go (trim_outcome rec ws c) refl
   where
     go : (o : Outcome) → trim_outcome rec ws c ≡ o →
         agrees (changed_by o (trimmed rec ws c.0) rec).rec (words_by o (words_keeping ws (unspent_at rec ws c.0)) ws) ≡ true
-    go Accepted e = trim_keeps rec ws c a (trim_passed rec ws c e).1
-    go (Refused why) e = a
+    go (Ok _) e = trim_keeps rec ws c a (trim_passed rec ws c e).1
+    go (Err why) e = a
 
 -- ---- an append that is accepted
 
-past_standing : (st : Standing) (x : Outcome) → (unjoined st else x) ≡ Accepted → (st ≡ Joins) × (x ≡ Accepted)
+past_standing : (st : Standing) (x : Outcome) → (unjoined st else x) ≡ Ok tt → (st ≡ Joins) × (x ≡ Ok tt)
 past_standing Joins x e = (refl, e)
 past_standing (Gap d) x e = absurd (refused_not (refusal.Gap d) e)
 past_standing (Overlap d) x e = absurd (refused_not (refusal.Overlap d) e)
@@ -150,20 +146,20 @@ pub record Taken (rec : Record) (ws : List ℕ) (st : Standing) (d n : ℕ) : Ty
   pub begins : every (λ r. before_end rec.head r.start.0) (given rec d n) ≡ true
   pub room : runs_for (unspent_of rec ws d n) ≤ capacity ws
 
-pub taken : (rec : Record) (ws : List ℕ) (st : Standing) (d n : ℕ) → append_outcome rec ws st d n ≡ Accepted → Taken rec ws st d n
+pub taken : (rec : Record) (ws : List ℕ) (st : Standing) (d n : ℕ) → append_outcome rec ws st d n ≡ Ok tt → Taken rec ws st d n
 unfolding append_outcome fit_outcome room_outcome
 taken rec ws st d n o =
-    let a = past_if (agrees rec ws) (cond (eqb d 0 || eqb n 0) (Refused refusal.NothingGiven) (unjoined st else fit_outcome rec ws d n)) refusal.Disagreement o in
+    let a = past_if (agrees rec ws) (cond (eqb d 0 || eqb n 0) (Err refusal.NothingGiven) (unjoined st else fit_outcome rec ws d n)) refusal.Disagreement o in
     let b = past_unless (eqb d 0 || eqb n 0) (unjoined st else fit_outcome rec ws d n) refusal.NothingGiven a.1 in
     let z = or_none (eqb d 0) (eqb n 0) b.0 in
     let j = past_standing st (fit_outcome rec ws d n) b.1 in
     let begins = every (λ r. before_end rec.head r.start.0) (given rec d n) in
     let counts = counts_held rec.head.first.0 (rec.accepted + n) in
     let e = past_if (leb (rec.next.0 + d * n) largest_tick)
-    (cond counts (cond begins (room_outcome rec ws d n) (Refused refusal.PastEnd)) (Refused refusal.CountLimit)) refusal.TickLimit j.1 in
-    let c = past_if counts (cond begins (room_outcome rec ws d n) (Refused refusal.PastEnd)) refusal.CountLimit e.1 in
+    (cond counts (cond begins (room_outcome rec ws d n) (Err refusal.PastEnd)) (Err refusal.CountLimit)) refusal.TickLimit j.1 in
+    let c = past_if counts (cond begins (room_outcome rec ws d n) (Err refusal.PastEnd)) refusal.CountLimit e.1 in
     let g = past_if begins (room_outcome rec ws d n) refusal.PastEnd c.1 in
-    let r = past_if (leb (runs_for (unspent_of rec ws d n)) (capacity ws)) Accepted refusal.NoRunLeft g.1 in
+    let r = past_if (leb (runs_for (unspent_of rec ws d n)) (capacity ws)) (Ok tt) refusal.NoRunLeft g.1 in
     record {
       agreed = a.0;
       lasts = eqb-false d 0 z.0;
@@ -175,7 +171,7 @@ taken rec ws st d n o =
       room = leb-true (runs_for (unspent_of rec ws d n)) (capacity ws) r.0;
     }
 
-module _ (rec : Record) (ws : List ℕ) (st : Standing) (d n : ℕ) (narrow : d ≤ largest_span) (o : append_outcome rec ws st d n ≡ Accepted) where
+module _ (rec : Record) (ws : List ℕ) (st : Standing) (d n : ℕ) (narrow : d ≤ largest_span) (o : append_outcome rec ws st d n ≡ Ok tt) where
   accepted_fits : Fitting rec ws (record { 0 = d }) n
   accepted_fits =
       let t = taken rec ws st d n o in
@@ -225,8 +221,8 @@ append_leaves_lem rec ws st d n narrow a = go (append_outcome rec ws st d n) ref
   where
     go : (o : Outcome) → append_outcome rec ws st d n ≡ o →
         agrees (changed_by o (appended rec ws d n) rec).rec (words_by o (words_keeping ws (unspent_of rec ws d n)) ws) ≡ true
-    go Accepted e = accepted_keeps rec ws st d n narrow e
-    go (Refused why) e = a
+    go (Ok _) e = accepted_keeps rec ws st d n narrow e
+    go (Err why) e = a
 
 -- two agreeing tables of one length that keep the same references are the same words
 pub same_table : (rec other : Record) (ws vs : List ℕ) → agrees rec ws ≡ true → agrees other vs ≡ true → length ws ≡ length vs → kept rec ws ≡ kept other vs → ws ≡ vs

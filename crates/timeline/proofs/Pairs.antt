@@ -7,16 +7,14 @@ use native.Mathlib.Omega.{arith}
 use mir.Syntax.{w32}
 use mir.Val.{Fits}
 use Rattle.units.specs.declared.Millis.{Millis}
-use Rattle.units.specs.declared.MillisMade.{MillisMade}
-use Rattle.units.specs.declared.MillisMade.TheVariants as millis
+use Rattle.std.specs.Prelude.{Err, None, Ok, Option, Some}
+use Rattle.keeping.specs.Keeping.{Outcome}
 use Rattle.units.specs.declared.WideMillis.{WideMillis}
 use Rattle.units.specs.declared.standing.Standing.{Standing}
 use Rattle.units.specs.Limits.{largest_span, millis_made, clock_held}
 use Rattle.agreement.specs.declared.Record.{Record}
 use Rattle.agreement.specs.declared.refusal.Refusal.TheVariants.{Disagreement, ClockLimit}
 use Rattle.agreement.specs.Agreement.{agrees}
-use Rattle.keeping.specs.declared.Outcome.{Outcome}
-use Rattle.keeping.specs.declared.Outcome.TheVariants.{Accepted, Refused}
 use Rattle.keeping.specs.declared.Changed.{Changed}
 use Rattle.keeping.specs.Keeping.{words_keeping, changed_by, words_by}
 use Rattle.keeping.specs.Append.{unspent_of, appended}
@@ -30,39 +28,39 @@ use Rattle.timeline.proofs.Kept.{trim_leaves_lem, accepted_keeps, append_leaves_
 -- ---- the refusals before the append
 
 module _ (rec : Record) (ws : List ℕ) (st : Standing) (d n : ℕ) (c : WideMillis) (t : Bool) (e : t ≡ agrees rec ws) where
-  pub pair_disagrees : not t ≡ true → pair_outcome rec ws st d n c ≡ Refused Disagreement
+  pub pair_disagrees : not t ≡ true → pair_outcome rec ws st d n c ≡ Err Disagreement
   unfolding pair_outcome
   pair_disagrees m = disagrees rec ws c (append_outcome rec ws st d n) t e m
 
-  module _ (m : not t ≡ false) (made : MillisMade) (k : made ≡ millis_made c.0) where
-    pub pair_over : made ≡ millis.Refused → pair_outcome rec ws st d n c ≡ Refused ClockLimit
+  module _ (m : not t ≡ false) (made : Option Millis) (k : made ≡ millis_made c.0) where
+    pub pair_over : made ≡ None → pair_outcome rec ws st d n c ≡ Err ClockLimit
     unfolding pair_outcome
     pair_over o = over rec ws c (append_outcome rec ws st d n) t e m made k o
 
-    pub pair_judged : (at : Millis) → made ≡ millis.Made at → pair_outcome rec ws st d n c ≡ append_outcome rec ws st d n
+    pub pair_judged : (at : Millis) → made ≡ Some at → pair_outcome rec ws st d n c ≡ append_outcome rec ws st d n
     unfolding pair_outcome
     pair_judged at o = within rec ws c (append_outcome rec ws st d n) t e m made k at o
 
 -- ---- the two steps
 
 -- a trim of what agrees, at a clock within its limit, is accepted
-pub trim_taken : (rec : Record) (ws : List ℕ) (c : WideMillis) → clock_held c ≡ true → agrees rec ws ≡ true → trim_outcome rec ws c ≡ Accepted
+pub trim_taken : (rec : Record) (ws : List ℕ) (c : WideMillis) → clock_held c ≡ true → agrees rec ws ≡ true → trim_outcome rec ws c ≡ Ok tt
 unfolding trim_outcome
-trim_taken rec ws c held a = ap₂ (λ s t. cond s (cond t Accepted (Refused ClockLimit)) (Refused Disagreement)) a held
+trim_taken rec ws c held a = ap₂ (λ s t. cond s (cond t (Ok tt) (Err ClockLimit)) (Err Disagreement)) a held
 
 -- by the outcome of the append, whose record and words agree where it is accepted
 module _ (rec new : Record) (ws left : List ℕ) (c : WideMillis) (held : clock_held c ≡ true) where
-  by_outcome : (o : Outcome) → (o ≡ Accepted → agrees new left ≡ true) →
+  by_outcome : (o : Outcome) → (o ≡ Ok tt → agrees new left ≡ true) →
       let x = changed_by o new rec in
       let vs = words_by o left ws in
       (changed_by x.outcome (trimmed x.rec vs c.0) x.rec ≡ changed_by o (trim_answer x.rec vs c).rec rec) ×
       (words_by x.outcome (words_keeping vs (unspent_at x.rec vs c.0)) vs ≡ words_by o (trim_table x.rec vs c) ws)
   unfolding changed_by words_by
-  by_outcome Accepted a = (
-    ap (λ o. record { outcome = Accepted; rec = (changed_by o (trimmed new left c.0) new).rec }) (sym (trim_taken new left c held (a refl))),
+  by_outcome (Ok _) a = (
+    ap (λ o. record { outcome = Ok tt; rec = (changed_by o (trimmed new left c.0) new).rec }) (sym (trim_taken new left c held (a refl))),
     ap (λ o. words_by o (words_keeping left (unspent_at new left c.0)) left) (sym (trim_taken new left c held (a refl))),
   )
-  by_outcome (Refused why) a = (refl, refl)
+  by_outcome (Err why) a = (refl, refl)
 
 -- ---- the call
 
@@ -76,8 +74,8 @@ module _ (rec : Record) (ws : List ℕ) (st : Standing) (d n : ℕ) (fits : Fits
   pub pair_agrees : agrees rec ws ≡ true → agrees x.rec vs ≡ true
   pair_agrees a = ap₂ (λ (y : Changed) us. agrees y.rec us) f g ∙ append_leaves_lem rec ws st d n narrow a
 
-  module _ (c : WideMillis) (t : Bool) (e : t ≡ agrees rec ws) (m : not t ≡ false) (made : MillisMade) (k : made ≡ millis_made c.0) (at : Millis)
-      (o : made ≡ millis.Made at) (meant : Standing) (same : st ≡ meant) where
+  module _ (c : WideMillis) (t : Bool) (e : t ≡ agrees rec ws) (m : not t ≡ false) (made : Option Millis) (k : made ≡ millis_made c.0) (at : Millis)
+      (o : made ≡ Some at) (meant : Standing) (same : st ≡ meant) where
     judged : pair_outcome rec ws st d n c ≡ append_outcome rec ws st d n
     judged = pair_judged rec ws st d n c t e m made k at o
 
@@ -107,18 +105,18 @@ module _ (rec : Record) (ws : List ℕ) (st : Standing) (d n : ℕ) (c : WideMil
   pub record Passed : Type 0 where
     pub agreed : agrees rec ws ≡ true
     pub held : clock_held c ≡ true
-    pub taken : append_outcome rec ws st d n ≡ Accepted
+    pub taken : append_outcome rec ws st d n ≡ Ok tt
 
-  pub pair_passed : pair_outcome rec ws st d n c ≡ Accepted → Passed
+  pub pair_passed : pair_outcome rec ws st d n c ≡ Ok tt → Passed
   unfolding pair_outcome
   pair_passed o =
-      let a = past_if (agrees rec ws) (cond (clock_held c) (append_outcome rec ws st d n) (Refused ClockLimit)) Disagreement o in
+      let a = past_if (agrees rec ws) (cond (clock_held c) (append_outcome rec ws st d n) (Err ClockLimit)) Disagreement o in
       let h = past_if (clock_held c) (append_outcome rec ws st d n) ClockLimit a.1 in
       record { agreed = a.0; held = h.0; taken = h.1 }
 
   module _ (narrow : d ≤ largest_span) where
     -- the trim behind an accepted append is accepted too
-    pub pair_trim : pair_outcome rec ws st d n c ≡ Accepted → trim_outcome (append_answer rec ws st d n).rec (append_table rec ws st d n) c ≡ Accepted
+    pub pair_trim : pair_outcome rec ws st d n c ≡ Ok tt → trim_outcome (append_answer rec ws st d n).rec (append_table rec ws st d n) c ≡ Ok tt
     pair_trim o =
         let p = pair_passed o in
         trim_taken (append_answer rec ws st d n).rec (append_table rec ws st d n) c p.held (append_leaves_lem rec ws st d n narrow p.agreed)
@@ -129,5 +127,5 @@ module _ (rec : Record) (ws : List ℕ) (st : Standing) (d n : ℕ) (c : WideMil
     pair_leaves_lem a = go (pair_outcome rec ws st d n c)
       where
         go : (o : Outcome) → agrees (changed_by o (pair_record rec ws st d n c) rec).rec (words_by o (pair_words rec ws st d n c) ws) ≡ true
-        go Accepted = trim_leaves_lem (append_answer rec ws st d n).rec (append_table rec ws st d n) c (append_leaves_lem rec ws st d n narrow a)
-        go (Refused why) = a
+        go (Ok _) = trim_leaves_lem (append_answer rec ws st d n).rec (append_table rec ws st d n) c (append_leaves_lem rec ws st d n narrow a)
+        go (Err why) = a

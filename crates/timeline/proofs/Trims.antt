@@ -2,15 +2,14 @@
 use mathlib.Core.Path.{◌≡◌, sym, ap, ap₂, subst, subst⁻¹, ◌∙◌}
 use mathlib.Core.Bool.{Bool, true, false, not}
 use mathlib.Core.List.{List}
-use Prim.Native.Nat.{ℕ, ◌+◌, ◌-◌, ◌≤◌, ◌<◌, max}
-use native.Mathlib.Nat.{max-eq_left, max-eq_right, max-le, le_of_lt}
+use Prim.Native.Nat.{ℕ, ◌+◌, ◌-◌, ◌≤◌, max}
+use native.Mathlib.Nat.{max-le}
 use native.Mathlib.Omega.{arith}
 use lib.ListN.{length, get_or, drop, length-drop}
 use mir.Syntax.{w64}
 use mir.Val.{Fits}
 use Rattle.units.specs.declared.Millis.{Millis}
-use Rattle.units.specs.declared.MillisMade.{MillisMade}
-use Rattle.units.specs.declared.MillisMade.TheVariants as millis
+use Rattle.std.specs.Prelude.{Err, None, Ok, Option, Some}
 use Rattle.units.specs.declared.WideMillis.{WideMillis}
 use Rattle.units.specs.Limits.{largest_millis, millis_made}
 use Rattle.window.specs.declared.Passed.{Passed}
@@ -21,36 +20,28 @@ use Rattle.agreement.specs.declared.Record.{Record}
 use Rattle.agreement.specs.declared.refusal.Refusal.TheVariants.{Disagreement, ClockLimit}
 use Rattle.agreement.specs.Agreement.{kept, agrees}
 use Rattle.agreement.proofs.Agreeing.{Agreeing, agreeing}
-use Rattle.keeping.specs.declared.Outcome.TheVariants.{Accepted, Refused}
 use Rattle.keeping.specs.Keeping.{words_keeping}
 use Rattle.keeping.specs.Steps.{count_passed}
 use Rattle.keeping.proofs.Unspent.{count_most, unspent_is}
 use Rattle.timeline.specs.Trimming.{unspent_at, trimmed, trim_outcome}
 use Rattle.timeline.proofs.Clocks.{clock_is, disagrees, over, within}
 
-module _ (a b : Millis) where
-  pub greater_second : a.0 < b.0 → b ≡ record { 0 = max a.0 b.0 }
-  greater_second l = ap (λ (n : ℕ). record { 0 = n }) (sym (max-eq_right (le_of_lt l)))
-
-  pub greater_first : b.0 ≤ a.0 → a ≡ record { 0 = max a.0 b.0 }
-  greater_first l = ap (λ (n : ℕ). record { 0 = n }) (sym (max-eq_left l))
-
 -- ---- the outcome
 
 module _ (rec : Record) (ws : List ℕ) (c : WideMillis) (t : Bool) (e : t ≡ agrees rec ws) where
-  pub trim_disagrees : not t ≡ true → trim_outcome rec ws c ≡ Refused Disagreement
+  pub trim_disagrees : not t ≡ true → trim_outcome rec ws c ≡ Err Disagreement
   unfolding trim_outcome
-  trim_disagrees n = disagrees rec ws c Accepted t e n
+  trim_disagrees n = disagrees rec ws c (Ok tt) t e n
 
-  module _ (n : not t ≡ false) (made : MillisMade) (k : made ≡ millis_made c.0) where
-    pub trim_over : made ≡ millis.Refused → trim_outcome rec ws c ≡ Refused ClockLimit
+  module _ (n : not t ≡ false) (made : Option Millis) (k : made ≡ millis_made c.0) where
+    pub trim_over : made ≡ None → trim_outcome rec ws c ≡ Err ClockLimit
     unfolding trim_outcome
-    trim_over m = over rec ws c Accepted t e n made k m
+    trim_over m = over rec ws c (Ok tt) t e n made k m
 
-    module _ (at : Millis) (m : made ≡ millis.Made at) where
-      pub trim_accepted : trim_outcome rec ws c ≡ Accepted
+    module _ (at : Millis) (m : made ≡ Some at) where
+      pub trim_accepted : trim_outcome rec ws c ≡ Ok tt
       unfolding trim_outcome
-      trim_accepted = within rec ws c Accepted t e n made k at m
+      trim_accepted = within rec ws c (Ok tt) t e n made k at m
 
       -- what was done at the clock that was made was done at the one given
       pub trim_made : (r : Record) → r ≡ trimmed rec ws at.0 → r ≡ trimmed rec ws c.0
@@ -71,17 +62,17 @@ module _ (rec : Record) (ws : List ℕ) (a : agrees rec ws ≡ true) where
   pub trim_total : rec.accepted - rec.dropped ≡ length (kept rec ws)
   trim_total = sym facts.total
 
-  module _ (c : ℕ) (small : c ≤ largest_millis) (g : Millis) (e : g ≡ record { 0 = max rec.clock.0 c }) where
-    pub trim_greatest : g.0 ≤ largest_millis
-    trim_greatest = subst⁻¹ (λ (n : ℕ). n ≤ largest_millis) (ap (λ x. x.0) e) (max-le facts.held.clock small)
+  module _ (c : ℕ) (small : c ≤ largest_millis) (g : ℕ) (e : g ≡ max rec.clock.0 c) where
+    pub trim_greatest : g ≤ largest_millis
+    trim_greatest = subst⁻¹ (λ (n : ℕ). n ≤ largest_millis) e (max-le facts.held.clock small)
 
-    module _ (p : Passed) (w : EndsPassed rec.head g.0 p) (spent : ℕ) (k : spent ≡ count_passed p (kept rec ws)) where
+    module _ (p : Passed) (w : EndsPassed rec.head g p) (spent : ℕ) (k : spent ≡ count_passed p (kept rec ws)) where
       few : spent ≤ length (kept rec ws)
       few = subst⁻¹ (λ (n : ℕ). n ≤ length (kept rec ws)) k (count_most p (kept rec ws))
 
       left_is : unspent_at rec ws c ≡ drop spent (kept rec ws)
       left_is =
-          unspent_is rec.head (max rec.clock.0 c) p (subst (λ (m : Millis). EndsPassed rec.head m.0 p) e w) (get_or ws 0 0) (kept rec ws)
+          unspent_is rec.head (max rec.clock.0 c) p (subst (λ (m : ℕ). EndsPassed rec.head m p) e w) (get_or ws 0 0) (kept rec ws)
           (kept_join rec.used ws facts.table) ∙
           ap (λ (n : ℕ). drop n (kept rec ws)) (sym k)
 
@@ -92,9 +83,9 @@ module _ (rec : Record) (ws : List ℕ) (a : agrees rec ws ≡ true) where
       counted = omega (arith, few, ap length left_is, length-drop spent (kept rec ws))
 
       pub trim_record : (used : ℕ) → used ≡ runs_for (drop spent (kept rec ws)) →
-          record { head = rec.head; accepted = rec.accepted; dropped = rec.dropped + spent; next = rec.next; clock = g; used = used } ≡ trimmed rec ws c
+          record { head = rec.head; accepted = rec.accepted; dropped = rec.dropped + spent; next = rec.next; clock = record { 0 = g }; used = used } ≡ trimmed rec ws c
       trim_record used u =
-          ap₂ (λ (d : ℕ) (x : Millis). record { head = rec.head; accepted = rec.accepted; dropped = d; next = rec.next; clock = x; used = used }) counted e ∙
+          ap₂ (λ (d x : ℕ). record { head = rec.head; accepted = rec.accepted; dropped = d; next = rec.next; clock = record { 0 = x }; used = used }) counted e ∙
           ap (λ (n : ℕ). record { head = rec.head; accepted = rec.accepted; dropped = rec.dropped + (length (kept rec ws) - length (unspent_at rec ws c)); next = rec.next; clock = record { 0 = max rec.clock.0 c }; used = n })
           (u ∙ ap runs_for (sym left_is))
 

@@ -1,7 +1,7 @@
 -- Opening takes the head fields and a first tick, zeroes the table, and sets counts and clock to 0. It is refused where a
 -- field or the first tick is over its limit: then the record is zero and the table as it came. Paper: Record and table;
 -- Refusal numbers, 1.
-use Rattle.std.specs.Prelude.{ℕ, ◌&&◌, List, length, replicate}
+use Rattle.std.specs.Prelude.{Err, Ok, ℕ, ◌&&◌, List, length, replicate}
 use Rattle.units.specs.declared.Tick.{Tick}
 use Rattle.units.specs.Limits.{tick_held}
 use Rattle.window.specs.declared.Head.{Head}
@@ -9,8 +9,7 @@ use Rattle.window.specs.Limits.{head_held}
 use Rattle.agreement.specs.declared.Record.{Record}
 use Rattle.agreement.specs.declared.refusal.Refusal.TheVariants.{OverLimit}
 use Rattle.agreement.specs.Rows.{◌unless◌else◌}
-use Rattle.keeping.specs.declared.Outcome.{Outcome}
-use Rattle.keeping.specs.declared.Outcome.TheVariants.{Accepted, Refused}
+use Rattle.keeping.specs.Keeping.{Outcome}
 use Rattle.keeping.specs.declared.Changed.{Changed}
 use Rattle.keeping.specs.Keeping.{changed_by, words_by}
 
@@ -33,7 +32,7 @@ zero_record =
     (record { 0 = 0 })
 
 unfoldable pub open_outcome : Head → Tick → Outcome
-open_outcome h t = Refused OverLimit unless head_held h && tick_held t else Accepted
+open_outcome h t = Err OverLimit unless head_held h && tick_held t else Ok tt
 
 abbrev pub open_answer : Head → Tick → Changed
 open_answer h t = changed_by (open_outcome h t) (fresh_record h t) zero_record

@@ -2,7 +2,7 @@
 -- is; so the append's refusals, room among them, are judged before the trim and at the greatest clock before the call. Accepted, the record and
 -- the table are those of the append and then of the trim; refused, they are as they came. Paper: Append and trim; Refusal numbers, 2 to 10;
 -- document 02, W-208.
-use Rattle.std.specs.Prelude.{ℕ, List}
+use Rattle.std.specs.Prelude.{Err, ℕ, List}
 use Rattle.units.specs.declared.WideMillis.{WideMillis}
 use Rattle.units.specs.declared.standing.Standing.{Standing}
 use Rattle.units.specs.Limits.{clock_held}
@@ -10,8 +10,7 @@ use Rattle.agreement.specs.declared.Record.{Record}
 use Rattle.agreement.specs.declared.refusal.Refusal.TheVariants.{Disagreement, ClockLimit}
 use Rattle.agreement.specs.Agreement.{agrees}
 use Rattle.agreement.specs.Rows.{◌unless◌else◌}
-use Rattle.keeping.specs.declared.Outcome.{Outcome}
-use Rattle.keeping.specs.declared.Outcome.TheVariants.{Refused}
+use Rattle.keeping.specs.Keeping.{Outcome}
 use Rattle.keeping.specs.declared.Changed.{Changed}
 use Rattle.keeping.specs.Keeping.{changed_by, words_by}
 use Rattle.timeline.specs.Appending.{append_outcome, append_answer, append_table}
@@ -19,8 +18,8 @@ use Rattle.timeline.specs.Trimming.{trim_answer, trim_table}
 
 unfoldable pub pair_outcome : Record → List ℕ → Standing → ℕ → ℕ → WideMillis → Outcome
 pair_outcome rec ws st d n c =
-    Refused Disagreement unless agrees rec ws else
-    Refused ClockLimit unless clock_held c else
+    Err Disagreement unless agrees rec ws else
+    Err ClockLimit unless clock_held c else
     append_outcome rec ws st d n
 
 -- the append, and the trim of what it leaves

@@ -1,6 +1,6 @@
 -- A trim raises the greatest clock to the given one if that is larger, and drops what is spent. An earlier clock changes
 -- nothing and is accepted. Paper: Append and trim; Refusal numbers, 2 and 10.
-use Rattle.std.specs.Prelude.{ℕ, max, List}
+use Rattle.std.specs.Prelude.{Err, Ok, ℕ, max, List}
 use Rattle.units.specs.declared.WideMillis.{WideMillis}
 use Rattle.units.specs.Limits.{clock_held}
 use Rattle.window.specs.declared.Reference.{Reference}
@@ -8,8 +8,7 @@ use Rattle.agreement.specs.declared.Record.{Record}
 use Rattle.agreement.specs.declared.refusal.Refusal.TheVariants.{Disagreement, ClockLimit}
 use Rattle.agreement.specs.Agreement.{kept, agrees}
 use Rattle.agreement.specs.Rows.{◌unless◌else◌}
-use Rattle.keeping.specs.declared.Outcome.{Outcome}
-use Rattle.keeping.specs.declared.Outcome.TheVariants.{Accepted, Refused}
+use Rattle.keeping.specs.Keeping.{Outcome}
 use Rattle.keeping.specs.declared.Changed.{Changed}
 use Rattle.keeping.specs.Keeping.{unspent, keeping, words_keeping, changed_by, words_by}
 
@@ -31,9 +30,9 @@ unspent_at rec ws c = unspent rec.head (max rec.clock.0 c) (kept rec ws)
 
 unfoldable pub trim_outcome : Record → List ℕ → WideMillis → Outcome
 trim_outcome rec ws c =
-    Refused Disagreement unless agrees rec ws else
-    Refused ClockLimit unless clock_held c else
-    Accepted
+    Err Disagreement unless agrees rec ws else
+    Err ClockLimit unless clock_held c else
+    (Ok tt)
 
 abbrev pub trimmed : Record → List ℕ → ℕ → Record
 trimmed rec ws c = keeping (clock_raised rec c) (kept rec ws) (unspent_at rec ws c)

@@ -11,8 +11,8 @@ ghost use Rattle.timeline.specs.Pair.{pair_answer, pair_table};
 use crate::appending::append_standing;
 use crate::trimming::trim_agreeing;
 use agreement::{Record, Refusal};
-use keeping::{Changed, Outcome, accepted, refused};
-use units::{Millis, MillisMade, Stamp, WideMillis};
+use keeping::Changed;
+use units::{Limited, Millis, Stamp, Start, WideMillis};
 
 // Inner: callers show that record and table agree and that the clock is held. A refused append stops it.
 fn trim_appended(appended: Changed, table: &mut [u64], clock: Millis) -> Changed
@@ -22,8 +22,8 @@ fn trim_appended(appended: Changed, table: &mut [u64], clock: Millis) -> Changed
 {
     let outcome = appended.outcome;
     match outcome {
-        Outcome::Accepted => accepted(trim_agreeing(appended.rec, table, clock)),
-        Outcome::Refused(why) => refused(why, appended.rec),
+        Ok(()) => Changed::accepted(trim_agreeing(appended.rec, table, clock)),
+        Err(_) => appended,
     }
 }
 
@@ -41,10 +41,10 @@ pub fn append_trim(
     ensures table_after { table.new ≡ pair_table rec table.old (stamp_standing stamp rec.next) duration count clock }
 {
     if !rec.agrees(table) {
-        return refused(Refusal::Disagreement, rec);
+        return Changed::refused(Refusal::Disagreement, rec);
     }
-    let MillisMade::Made(at) = Millis::new(clock.0) else {
-        return refused(Refusal::ClockLimit, rec);
+    let Some(at) = Millis::new(clock.0) else {
+        return Changed::refused(Refusal::ClockLimit, rec);
     };
     let appended = append_standing(rec, table, stamp.against(rec.next), duration, count);
     trim_appended(appended, table, at)

@@ -2,7 +2,6 @@
 pub mod Choice
 pub mod FullTicks
 pub mod Guards
-pub mod Held
 pub mod Makers
 pub mod Signed
 pub mod Stamps

@@ -1,96 +1,59 @@
 -- What an answer of a refusing constructor says of what it was given: made, it is the unit of it and within the limits; refused,
 -- it is beyond them.
-use Rattle.std.proofs.Common.{◌≡◌, ℕ, ◌<◌, ◌≤◌, Bool, true, false, cond, ◌&&◌, eqb, leb, sym, refl, ap, ◌∙◌, subst, ap₂, true≢false, suc-ne-zero, arith, eqb-true, le-leb, leb-true}
+use Rattle.std.proofs.Common.{◌≡◌, ℕ, ◌<◌, ◌≤◌, Bool, true, false, cond, ◌&&◌, Option, Some, None, eqb, leb, sym, refl, ap, ◌∙◌, subst, ap₂, true≢false, arith, eqb-true, le-leb, leb-true}
+use Rattle.std.proofs.lemmas.Option.{cond_some, none-some}
 use mathlib.Core.Path.{subst⁻¹}
-use borrow.Author.Tests.{eqb-false}
+use borrow.Author.Tests.{eqb-false, lt-leb}
 use Rattle.units.specs.declared.Tick.{Tick}
-use Rattle.units.specs.declared.TickMade.{TickMade}
-use Rattle.units.specs.declared.TickMade.TheVariants as tick
 use Rattle.units.specs.declared.Millis.{Millis}
-use Rattle.units.specs.declared.MillisMade.{MillisMade}
-use Rattle.units.specs.declared.MillisMade.TheVariants as millis
 use Rattle.units.specs.declared.Timescale.{Timescale}
-use Rattle.units.specs.declared.TimescaleMade.{TimescaleMade}
-use Rattle.units.specs.declared.TimescaleMade.TheVariants as timescale
 use Rattle.units.specs.declared.Span.{Span}
-use Rattle.units.specs.declared.SpanMade.{SpanMade}
-use Rattle.units.specs.declared.SpanMade.TheVariants as span
 use Rattle.units.specs.declared.Number.{Number}
-use Rattle.units.specs.declared.NumberMade.{NumberMade}
-use Rattle.units.specs.declared.NumberMade.TheVariants as number
-use Rattle.units.specs.Limits.{largest_millis, largest_span, tick_held, tick_number, millis_held, millis_made, millis_number, timescale_held, timescale_number, span_held, span_made, span_number, number_held, asked_number}
+use Rattle.units.specs.Limits.{largest_millis, largest_span, tick_held, millis_held, millis_made, timescale_held, span_held, span_made, number_held}
 use Rattle.units.proofs.Choice.{chosen, passed_over}
 use Rattle.units.proofs.Guards.{at_most, above}
-use Rattle.units.proofs.Held.{nothing_held}
 
-pub record Maker {X A M : Type 0} (held : X → Bool) (unit : X → A) (made : A → M) (refused : M) : Type 0 where
-  pub is : (x : X) (m : M) (a : A) → m ≡ cond (held x) (made (unit x)) refused → m ≡ made a → a ≡ unit x
-  pub within : (x : X) (m : M) (a : A) → m ≡ cond (held x) (made (unit x)) refused → m ≡ made a → held x ≡ true
-  pub beyond : (x : X) (m : M) → m ≡ cond (held x) (made (unit x)) refused → m ≡ refused → held x ≡ false
+pub record Maker {X A : Type 0} (held : X → Bool) (unit : X → A) : Type 0 where
+  pub is : (x : X) (m : Option A) (a : A) → m ≡ cond (held x) (Some (unit x)) None → m ≡ Some a → a ≡ unit x
+  pub within : (x : X) (m : Option A) (a : A) → m ≡ cond (held x) (Some (unit x)) None → m ≡ Some a → held x ≡ true
+  pub beyond : (x : X) (m : Option A) → m ≡ cond (held x) (Some (unit x)) None → m ≡ None → held x ≡ false
 
--- it is enough that the paper's number tells the two answers apart, and that the value of one that is made can be read
-pub maker : {X A M : Type 0} (held : X → Bool) (unit : X → A) (made : A → M) (refused : M) (number : M → ℕ) (value : A → M → A) →
-    ((a : A) → number (made a) ≡ 0) → (number refused ≡ 0 → ⊥) → ((d a : A) → value d (made a) ≡ a) → Maker held unit made refused
-maker {X} {A} held unit made refused number value none some value_is =
+pub maker : {X A : Type 0} (held : X → Bool) (unit : X → A) → Maker held unit
+maker {X} {A} held unit =
     record {
-      is = λ x m a e k. is (held x) x a (sym e ∙ k);
-      within = λ x m a e k. within (held x) x a (sym e ∙ k);
-      beyond = λ x m e k. beyond (held x) x (sym e ∙ k);
+      is = λ x m a e k. sym (cond_some (held x) (unit x) a (sym e ∙ k)).1;
+      within = λ x m a e k. (cond_some (held x) (unit x) a (sym e ∙ k)).0;
+      beyond = λ x m e k. beyond (held x) (unit x) (sym e ∙ k);
     }
   where
-    is : (b : Bool) (x : X) (a : A) → cond b (made (unit x)) refused ≡ made a → a ≡ unit x
-    is true x a e = sym (value_is (unit x) a) ∙ sym (ap (value (unit x)) e) ∙ value_is (unit x) (unit x)
-    is false x a e = absurd (some (ap number e ∙ none a))
-
-    within : (b : Bool) (x : X) (a : A) → cond b (made (unit x)) refused ≡ made a → b ≡ true
-    within true x a e = refl
-    within false x a e = absurd (some (ap number e ∙ none a))
-
-    beyond : (b : Bool) (x : X) → cond b (made (unit x)) refused ≡ refused → b ≡ false
-    beyond true x e = absurd (some (sym (ap number e) ∙ none (unit x)))
-    beyond false x e = refl
+    beyond : (b : Bool) (a : A) → cond b (Some a) None ≡ None → b ≡ false
+    beyond true a e = absurd (none-some a (sym e))
+    beyond false a e = refl
 
 -- ---- the five units
 
-abbrev tick_in : Tick → TickMade → Tick
-tick_in d (tick.Made t) = t
-tick_in d tick.Refused = d
+pub ticks : Maker {X = ℕ} {A = Tick} (λ n. tick_held (record { 0 = n })) (λ n. record { 0 = n })
+ticks = maker _ _
 
-pub ticks : Maker {X = ℕ} (λ n. tick_held (record { 0 = n })) (λ n. record { 0 = n }) tick.Made tick.Refused
-ticks = maker _ _ _ _ tick_number tick_in (λ a. refl) (suc-ne-zero _) (λ d a. refl)
+pub milliseconds : Maker {X = ℕ} {A = Millis} (λ n. millis_held (record { 0 = n })) (λ n. record { 0 = n })
+milliseconds = maker _ _
 
-abbrev millis_in : Millis → MillisMade → Millis
-millis_in d (millis.Made m) = m
-millis_in d millis.Refused = d
+pub timescales : Maker {X = ℕ} {A = Timescale} (λ n. timescale_held (record { 0 = n })) (λ n. record { 0 = n })
+timescales = maker _ _
 
-pub milliseconds : Maker {X = ℕ} (λ n. millis_held (record { 0 = n })) (λ n. record { 0 = n }) millis.Made millis.Refused
-milliseconds = maker _ _ _ _ millis_number millis_in (λ a. refl) (suc-ne-zero _) (λ d a. refl)
+pub spans : Maker {X = ℕ} {A = Span} (λ n. span_held (record { 0 = n })) (λ n. record { 0 = n })
+spans = maker _ _
 
-abbrev timescale_in : Timescale → TimescaleMade → Timescale
-timescale_in d (timescale.Made t) = t
-timescale_in d timescale.Refused = d
-
-pub timescales : Maker {X = ℕ} (λ n. timescale_held (record { 0 = n })) (λ n. record { 0 = n }) timescale.Made timescale.Refused
-timescales = maker _ _ _ _ timescale_number timescale_in (λ a. refl) (suc-ne-zero _) (λ d a. refl)
-
-abbrev span_in : Span → SpanMade → Span
-span_in d (span.Made e) = e
-span_in d span.Refused = d
-
-pub spans : Maker {X = ℕ} (λ n. span_held (record { 0 = n })) (λ n. record { 0 = n }) span.Made span.Refused
-spans = maker _ _ _ _ span_number span_in (λ a. refl) (suc-ne-zero _) (λ d a. refl)
-
-abbrev number_in : Number → NumberMade → Number
-number_in d (number.Made n) = n
-number_in d number.Refused = d
-
-pub numbers : Maker {X = ℕ} (λ n. number_held (record { 0 = n })) (λ n. record { 0 = n }) number.Made number.Refused
-numbers = maker _ _ _ _ asked_number number_in (λ a. refl) (suc-ne-zero _) (λ d a. refl)
+pub numbers : Maker {X = ℕ} {A = Number} (λ n. number_held (record { 0 = n })) (λ n. record { 0 = n })
+numbers = maker _ _
 
 -- ---- a duration of 32 bits
 
-module _ (d : ℕ) (m : SpanMade) (e : m ≡ span_made d) where
-  pub no_duration : d ≤ largest_span → m ≡ span.Refused → d ≡ 0
+nothing_held : (n largest : ℕ) → n ≡ 0 → false ≡ (leb 1 n && leb n largest)
+nothing_held n largest h = sym (ap (λ t. t && leb n largest) (lt-leb 1 n (omega arith)))
+
+module _ (d : ℕ) (m : Option Span) (e : m ≡ span_made d) where
+  pub no_duration : d ≤ largest_span → m ≡ None → d ≡ 0
   no_duration l k = go (eqb d 0) refl
     where
       go : (t : Bool) → eqb d 0 ≡ t → d ≡ 0
@@ -99,7 +62,7 @@ module _ (d : ℕ) (m : SpanMade) (e : m ≡ span_made d) where
           let some : d ≡ 0 → ⊥ = eqb-false d 0 f in
           absurd (true≢false (sym (ap₂ ◌&&◌ (le-leb 1 d (omega arith)) (le-leb d largest_span l)) ∙ spans.beyond d m e k))
 
-  module _ (s : Span) (k : m ≡ span.Made s) where
+  module _ (s : Span) (k : m ≡ Some s) where
     pub duration_is : s ≡ record { 0 = d }
     duration_is = spans.is d m s e k
 
@@ -111,11 +74,11 @@ module _ (d : ℕ) (m : SpanMade) (e : m ≡ span_made d) where
 
 -- ---- a clock, as the calls test it
 
-module _ (n : ℕ) (m : MillisMade) (e : m ≡ millis_made n) where
-  pub clock_over : {A : Type 0} (x y : A) → m ≡ millis.Refused → y ≡ cond (leb n largest_millis) x y
+module _ (n : ℕ) (m : Option Millis) (e : m ≡ millis_made n) where
+  pub clock_over : {A : Type 0} (x y : A) → m ≡ None → y ≡ cond (leb n largest_millis) x y
   clock_over x y k = passed_over _ _ x y refl (milliseconds.beyond n m e k)
 
-  module _ (at : Millis) (k : m ≡ millis.Made at) where
+  module _ (at : Millis) (k : m ≡ Some at) where
     pub clock_is : at.0 ≡ n
     clock_is = ap (λ (t : Millis). t.0) (milliseconds.is n m at e k)
 

@@ -3,37 +3,28 @@
 ghost use Rattle.std.specs.Prelude.{◌≡◌};
 ghost use Rattle.units.specs.Full.{full_tick};
 
-use crate::standing::HALF;
-use crate::{Stamp, Tick};
-
-#[derive(Clone, Copy)]
-pub enum Full {
-    At(Tick),
-    Nowhere,
-}
-
-// The stamps go round in so many ticks.
-const CIRCLE: u64 = 4_294_967_296;
+use crate::standing::{CIRCLE, HALF};
+use crate::{Limited, Stamp, Tick};
 
 impl Stamp {
-    pub fn full(self, next: Tick) -> Full
+    pub fn full(self, next: Tick) -> Option<Tick>
         ensures { result ≡ full_tick self next }
     {
         let apart = self.apart(next);
         let distance = apart as u64;
         if apart < HALF {
             if Tick::LARGEST - distance < next.0 {
-                return Full::Nowhere;
+                return None;
             }
-            return Full::At(Tick(next.0 + distance));
+            return Some(Tick(next.0 + distance));
         }
         let back = CIRCLE - distance;
         if next.0 < back {
-            return Full::Nowhere;
+            return None;
         }
         if Tick::LARGEST < next.0 - back {
-            return Full::Nowhere;
+            return None;
         }
-        Full::At(Tick(next.0 - back))
+        Some(Tick(next.0 - back))
     }
 }

@@ -1,29 +1,27 @@
 -- What the divisions of the code find is exactly what the definitions ask: the ends that are passed, the ticks that a
 -- window needs, the least count that reaches the period end.
-use mathlib.Core.Path.{◌≡◌, refl, sym, ap, ap₂, subst⁻¹, ◌∙◌}
+use mathlib.Core.Path.{◌≡◌, refl, sym, ap, ap₂, subst, subst⁻¹, ◌∙◌}
 use mathlib.Core.Bool.{Bool, true, false, cond, ◌&&◌, false≢true}
-use Prim.Native.Nat.{ℕ, ◌+◌, ◌-◌, ◌*◌, ◌/◌, ◌≤◌, ◌<◌, min, max}
-use native.Mathlib.Nat.{mul_assoc, mul_comm, add-mul, one-mul, mul-le-mul_right, div-mul-le_self, div-le_self, lt-div-mul-add, add-zero, le_of_lt}
+use Prim.Native.Nat.{ℕ, zero, suc, ◌+◌, ◌-◌, ◌*◌, ◌/◌, ◌%◌, ◌≤◌, ◌<◌, min, max}
+use native.Mathlib.Nat.{mul_assoc, mul_comm, add-mul, one-mul, zero-mul, mul-le-mul_right, add-zero, le_of_lt}
 use native.Mathlib.Omega.{arith}
 use borrow.Author.Tests.{leb-true, leb-false, ltb-true, le-leb, lt-leb, lt-ltb, le-ltb}
 use lib.Dec.{leb, ltb}
+use Rattle.std.specs.Prelude.{Option, Some, None}
+use Rattle.std.proofs.lemmas.Grind.{div_ceil_times}
 use lib.IntN.{ℤ}
-use mir.Syntax.{w64}
-use mir.Val.{Fits}
-use Rattle.units.specs.Limits.{largest_tick, largest_millis, largest_timescale}
 use Rattle.units.specs.Product.{Product}
 use Rattle.units.proofs.Choice.{same_test}
 use Rattle.units.proofs.Signed.{up, is_pos, le_is}
 use Rattle.window.specs.declared.Head.{Head}
-use Rattle.window.specs.declared.Needed.{Needed}
-use Rattle.window.specs.declared.Needed.TheVariants.{Nothing, Ticks}
+use Rattle.window.specs.declared.Ticks.{Ticks}
 use Rattle.window.specs.declared.Passed.TheVariants.{All, Upto}
 use Rattle.window.specs.Place.{end_known, period_end, place, before_end}
 use Rattle.window.specs.Steps.{Past, inside, over_by}
 use Rattle.window.specs.Window.{low_edge, high_edge, window_at, whole_period, passed, tick_needed}
 use Rattle.window.specs.Ticks.{EndsPassed, NeededTicks, LeastCount, reaches_end}
 use Rattle.window.proofs.Ranges.{in_range_lem, range_first, range_last}
-use Rattle.window.proofs.Unsigned.{end_at, place_n, low_n, cut_n, high_n, later_start, low_is, high_up, passed_is, tick_is, window_inside, place_is, starts_before, not_known, is_known}
+use Rattle.window.proofs.Unsigned.{end_at, place_n, low_n, cut_n, high_n, later_start, low_is, high_up, passed_is, tick_is, window_inside, place_is, starts_before, is_known}
 
 -- a point past the period start is its `up`
 past_up : (r : ℕ) (z : ℤ) → Past r z → r ≡ up z
@@ -55,21 +53,20 @@ tick_side k o a b l =
     to : ℕ
     to = min ((k + 1) * 1000 - o * 1000) b
 
--- x parted by w, rounded up: that many times w reach x, and fewer do not
-up_enough : (x w : ℕ) → 1 ≤ x → 1 ≤ w → x ≤ ((x - 1) / w + 1) * w
-up_enough x w l p =
-    let m : x - 1 < (x - 1) / w * w + w = lt-div-mul-add p in
-    omega (arith, add-mul ((x - 1) / w) 1 w, one-mul w)
+-- of n that is x parted by w, rounded up: fewer times w do not reach x
+fewer : (x w n m : ℕ) → n * w < x + w → m < n → m * w < x
+fewer x w n m l k =
+    let q : m + 1 ≤ n = omega arith in
+    let t : (m + 1) * w ≤ n * w = mul-le-mul_right w q in
+    omega (arith, add-mul m 1 w, one-mul w)
 
-up_least : (x w n : ℕ) → 1 ≤ x → n < (x - 1) / w + 1 → n * w < x
-up_least x w n l p =
-    let k : n ≤ (x - 1) / w = omega arith in
-    let m : n * w ≤ (x - 1) / w * w = mul-le-mul_right w k in
-    omega (arith, div-mul-le_self (x - 1) w)
+some_times : (x w n : ℕ) → 1 ≤ x → x ≤ n * w → 1 ≤ n
+some_times x w zero l m = let z : ⊥ = omega (arith, zero-mul w) in absurd z
+some_times x w (suc n) l m = omega arith
 
-pub count_fits : (x w a b c d e f : ℕ) → Product a c d (largest_millis * largest_timescale) → Product b e f (largest_tick * 1000) → 1 ≤ a + b - x →
-    Fits w64 ((a + b - x - 1) / w + 1)
-count_fits x w a b c d e f p q l = record { fits = omega (arith, p.small, q.small, div-le_self (a + b - x - 1) w) }
+-- by thousands, as the closed form has it
+thousands : (b : ℕ) → b / 1000 + min 1 (b % 1000) ≡ (b + 999) / 1000
+thousands b = omega arith
 
 module _ (h : Head) where
   -- ---- the period end
@@ -77,9 +74,6 @@ module _ (h : Head) where
   over_is : (x : ℕ) → over_by h x ≡ cond (end_known h) (leb (end_at h) x) false
   unfolding period_end
   over_is x = refl
-
-  pub over_open : (x : ℕ) → h.duration.0 ≡ 0 → false ≡ over_by h x
-  over_open x e = sym (over_is x ∙ ap (λ t. cond t (leb (end_at h) x) false) (not_known h e))
 
   pub over_known : (e x most : ℕ) → (h.duration.0 ≡ 0 → ⊥) → Product e h.duration.0 h.timescale.0 most → leb e x ≡ over_by h x
   over_known e x most n p = ap (λ (m : ℕ). leb m x) p.is ∙ sym (over_is x ∙ ap (λ t. cond t (leb (end_at h) x) false) (is_known h n))
@@ -121,15 +115,22 @@ module _ (h : Head) where
 
   -- ---- the ticks that a window needs
 
-  pub none_needed : (a b : ℕ) → b ≤ a → NeededTicks h (inside a b) Nothing
+  pub none_needed : (a b : ℕ) → b ≤ a → NeededTicks h (inside a b) None
   none_needed a b l =
       record { some = tt; each = λ k. tick_is h a b k ∙ le-ltb (max (place_n h k) a) (min (place_n h (k + 1)) b) (omega arith) }
 
   pub ticks_needed : (a b : ℕ) → a < b →
-      NeededTicks h (inside a b) (Ticks (record { 0 = h.offset.0 + a / 1000 }) (record { 0 = h.offset.0 + (b + 999) / 1000 }))
+      NeededTicks h (inside a b) (Some (record { first = record { 0 = h.offset.0 + a / 1000 }; end = record { 0 = h.offset.0 + (b + 999) / 1000 } }))
   ticks_needed a b l = record { some = omega arith; each = λ k. tick_is h a b k ∙ tick_side k h.offset.0 a b l }
 
-  pub needed_window : (c a b : ℕ) (n : Needed) → Past a (low_edge h c) → Past b (high_edge h c) → NeededTicks h (inside a b) n → NeededTicks h (window_at h c) n
+  -- as the code rounds up
+  pub ticks_found : (a b n : ℕ) → a < b → n ≡ b / 1000 + min 1 (b % 1000) →
+      NeededTicks h (inside a b) (Some (record { first = record { 0 = h.offset.0 + a / 1000 }; end = record { 0 = h.offset.0 + n } }))
+  ticks_found a b n l e =
+      subst⁻¹ (λ (k : ℕ). NeededTicks h (inside a b) (Some (record { first = record { 0 = h.offset.0 + a / 1000 }; end = record { 0 = h.offset.0 + k } })))
+      (e ∙ thousands b) (ticks_needed a b l)
+
+  pub needed_window : (c a b : ℕ) (n : Option Ticks) → Past a (low_edge h c) → Past b (high_edge h c) → NeededTicks h (inside a b) n → NeededTicks h (window_at h c) n
   needed_window c a b n x y t =
       let e : a ≡ low_n h c = past_up a (low_edge h c) x ∙ ap up (low_is h c) in
       let f : b ≡ high_n h c = past_up b (high_edge h c) y ∙ high_up h c in
@@ -138,25 +139,25 @@ module _ (h : Head) where
         each = λ k. window_inside h c k ∙ ap₂ (λ (u v : ℕ). tick_needed h (inside u v) k) (sym e) (sym f) ∙ t.each k;
       }
 
-  pub needed_period : (e most : ℕ) (n : Needed) → Product e h.duration.0 h.timescale.0 most → NeededTicks h (inside 0 e) n → NeededTicks h (whole_period h) n
+  pub needed_period : (e most : ℕ) (n : Option Ticks) → Product e h.duration.0 h.timescale.0 most → NeededTicks h (inside 0 e) n → NeededTicks h (whole_period h) n
   unfolding period_end
   needed_period e most n p t = record { some = t.some; each = λ k. ap (λ (u : ℕ). tick_needed h (inside 0 u) k) (sym p.is) ∙ t.each k }
 
   -- in closed form, by the edges
 
   pub window_ticks : (c : ℕ) → low_n h c < high_n h c →
-      NeededTicks h (window_at h c) (Ticks (record { 0 = h.offset.0 + low_n h c / 1000 }) (record { 0 = h.offset.0 + (high_n h c + 999) / 1000 }))
+      NeededTicks h (window_at h c) (Some (record { first = record { 0 = h.offset.0 + low_n h c / 1000 }; end = record { 0 = h.offset.0 + (high_n h c + 999) / 1000 } }))
   window_ticks c l =
       let t = ticks_needed (low_n h c) (high_n h c) l in
       record { some = t.some; each = λ k. window_inside h c k ∙ t.each k }
 
-  pub window_none : (c : ℕ) → high_n h c ≤ low_n h c → NeededTicks h (window_at h c) Nothing
+  pub window_none : (c : ℕ) → high_n h c ≤ low_n h c → NeededTicks h (window_at h c) None
   window_none c l =
       let t = none_needed (low_n h c) (high_n h c) l in
       record { some = t.some; each = λ k. window_inside h c k ∙ t.each k }
 
   pub period_ticks : 0 < end_at h →
-      NeededTicks h (whole_period h) (Ticks (record { 0 = h.offset.0 + 0 / 1000 }) (record { 0 = h.offset.0 + (end_at h + 999) / 1000 }))
+      NeededTicks h (whole_period h) (Some (record { first = record { 0 = h.offset.0 + 0 / 1000 }; end = record { 0 = h.offset.0 + (end_at h + 999) / 1000 } }))
   unfolding period_end
   period_ticks l =
       let t = ticks_needed 0 (end_at h) l in
@@ -189,19 +190,20 @@ module _ (h : Head) where
     reaches : (n : ℕ) → reaches_end h (s + d * n) ≡ leb (e + o) (a + n * (d * 1000))
     reaches n = reaches_is (s + d * n) ∙ ap₂ leb (ap₂ ◌+◌ (sym pe.is) (sym po.is)) (taken n)
 
-    by_ticks : LeastCount h s d ((e + o - a - 1) / (d * 1000) + 1)
-    by_ticks =
-        let count : ℕ = (e + o - a - 1) / (d * 1000) + 1 in
-        record {
-          some = omega arith;
-          reaches =
-              reaches count ∙
-              le-leb (e + o) (a + count * (d * 1000)) (omega (arith, some_left, up_enough (e + o - a) (d * 1000) (omega (arith, some_left)) (omega arith)));
-          least = λ n some l.
-              reaches n ∙
-              lt-leb (e + o) (a + n * (d * 1000)) (omega (arith, some_left, up_least (e + o - a) (d * 1000) n (omega (arith, some_left)) l));
-        }
-
     -- by the grains of one reference
-    pub least_count_lem : (g m₄ : ℕ) → Product g d 1000 m₄ → LeastCount h s d ((e + o - a - 1) / g + 1)
-    least_count_lem g m₄ pg = subst⁻¹ (λ (x : ℕ). LeastCount h s d ((e + o - a - 1) / x + 1)) pg.is by_ticks
+    pub least_count_lem : (g n m₄ : ℕ) → Product g d 1000 m₄ → n ≡ (e + o - a) / g + min 1 ((e + o - a) % g) → LeastCount h s d n
+    least_count_lem g n m₄ pg q = by_ticks n (subst⁻¹ (λ (k : ℕ). (left ≤ k * (d * 1000)) × (k * (d * 1000) < left + d * 1000)) q
+        (subst (λ (w : ℕ). (left ≤ (left / g + min 1 (left % g)) * w) × ((left / g + min 1 (left % g)) * w < left + w)) pg.is
+        (div_ceil_times left g (omega (arith, pg.is)))))
+      where
+        left : ℕ
+        left = e + o - a
+
+        by_ticks : (n : ℕ) → (left ≤ n * (d * 1000)) × (n * (d * 1000) < left + d * 1000) → LeastCount h s d n
+        by_ticks n t =
+            record {
+              some = some_times left (d * 1000) n left_some t.0;
+              reaches = reaches n ∙ le-leb (e + o) (a + n * (d * 1000)) (omega (arith, some_left, t.0));
+              least = λ m some l.
+                  reaches m ∙ lt-leb (e + o) (a + m * (d * 1000)) (omega (arith, some_left, fewer left (d * 1000) n m t.1 l));
+            }

@@ -1,15 +1,11 @@
 -- The limits of a head: as the code tests them, and as facts.
-use mathlib.Core.Path.{◌≡◌, ap₂}
-use mathlib.Core.Bool.{Bool, true, ◌&&◌, and-eq-true_iff}
+use mathlib.Core.Path.{◌≡◌}
+use mathlib.Core.Bool.{true, and-eq-true_iff}
 use borrow.Author.Tests.{leb-true, le-leb}
 use Rattle.units.specs.Exactly.{ExactlyWhen}
 use Rattle.units.specs.Limits.{largest_tick, largest_millis, largest_timescale, largest_number, tick_held, millis_held, timescale_held, number_held}
 use Rattle.window.specs.declared.Head.{Head}
 use Rattle.window.specs.Limits.{head_held, Held}
-
-pub tests_held : (h : Head) (t o s d p f u : Bool) → t ≡ timescale_held h.timescale → o ≡ tick_held h.offset → s ≡ millis_held h.start →
-    d ≡ millis_held h.duration → p ≡ millis_held h.depth → f ≡ number_held h.first → u ≡ millis_held h.update → (t && o && s && d && p && f && u) ≡ head_held h
-tests_held h t o s d p f u et eo es ed ep ef eu = ap₂ ◌&&◌ (ap₂ ◌&&◌ (ap₂ ◌&&◌ (ap₂ ◌&&◌ (ap₂ ◌&&◌ (ap₂ ◌&&◌ et eo) es) ed) ep) ef) eu
 
 -- the tests of a head that is held, each by itself
 pub record EachHeld (h : Head) : Type 0 where

@@ -1,27 +1,23 @@
 -- What the code computes for the edges of the window and for the period end is what the definitions say.
 use mathlib.Core.Path.{◌≡◌, sym, ap, ap₂, ◌∙◌}
 use mathlib.Core.Bool.{true, cond}
-use Prim.Native.Nat.{ℕ, ◌+◌, ◌-◌, ◌*◌, ◌≤◌, ◌<◌, min}
-use native.Mathlib.Nat.{add-mul, mul-sub, mul_comm, sub-eq-zero_of_le, mul-le-mul_right, min-eq_left, min-eq_right, min-zero, le_of_lt}
+use Prim.Native.Nat.{ℕ, ◌+◌, ◌-◌, ◌*◌, ◌≤◌, min}
+use native.Mathlib.Nat.{add-mul, mul-sub, mul_comm}
 use native.Mathlib.Omega.{arith}
 use borrow.Author.Tests.{eq-eqb, ne_eqb}
-use lib.Dec.{ltb, eqb}
+use lib.Dec.{ltb}
 use lib.IntN.{ℤ, pos}
 use Rattle.units.proofs.Signed.{up}
-use Rattle.units.proofs.Choice.{either}
 use Rattle.units.specs.Limits.{largest_millis, largest_timescale}
 use Rattle.units.specs.Product.{Product}
 use Rattle.window.specs.declared.Head.{Head}
-use Rattle.window.specs.Place.{end_known, before_end}
+use Rattle.window.specs.Place.{before_end}
 use Rattle.window.specs.Steps.{farthest, Past}
 use Rattle.window.specs.Window.{low_edge, high_edge}
 use Rattle.window.proofs.Unsigned.{end_at, since_start, since_depth, low_n, cut_n, high_n, later_start, low_is, high_up, before_is, not_known, is_known}
 
 sub_mul : (a b n : ℕ) → (a - b) * n ≡ a * n - b * n
 sub_mul a b n = mul_comm (a - b) n ∙ mul-sub n a b ∙ ap₂ ◌-◌ (mul_comm n a) (mul_comm n b)
-
-none_left : (a b n : ℕ) → a ≤ b → a * n - b * n ≡ 0
-none_left a b n l = sub-eq-zero_of_le (mul-le-mul_right n l)
 
 past : (z : ℤ) (r : ℕ) → r ≡ up z → r ≤ farthest → Past r z
 past z r e s = record { is = ap pos e ∙ sym (later_start z); small = s }
@@ -35,15 +31,11 @@ module _ (h : Head) (c : ℕ) where
   pub low_none : h.depth.0 ≡ 0 → Past 0 (low_edge h c)
   low_none e = low 0 (sym (ap (λ t. cond t 0 (since_depth h c)) (eq-eqb h.depth.0 0 e))) (omega arith)
 
-  pub low_early : c ≤ h.depth.0 + h.start.0 → Past 0 (low_edge h c)
-  low_early l =
-      let none : since_depth h c ≡ 0 = none_left c (h.depth.0 + h.start.0) h.timescale.0 l in
-      low 0 (sym (ap (cond (eqb h.depth.0 0) 0) none ∙ either (eqb h.depth.0 0) 0)) (omega arith)
-
-  pub low_past : (r : ℕ) → (h.depth.0 ≡ 0 → ⊥) → Product r (c - (h.depth.0 + h.start.0)) h.timescale.0 (largest_millis * largest_timescale) → Past r (low_edge h c)
-  low_past r n p =
-      let e : r ≡ since_depth h c = p.is ∙ sub_mul c (h.depth.0 + h.start.0) h.timescale.0 in
-      low r (e ∙ sym (ap (λ t. cond t 0 (since_depth h c)) (ne_eqb h.depth.0 0 n))) (omega (arith, p.small))
+  pub low_past : (r p : ℕ) → (h.depth.0 ≡ 0 → ⊥) → p ≡ c - (h.depth.0 + h.start.0) → Product r p h.timescale.0 (largest_millis * largest_timescale) →
+      Past r (low_edge h c)
+  low_past r p n q t =
+      let e : r ≡ since_depth h c = t.is ∙ ap (λ (m : ℕ). m * h.timescale.0) q ∙ sub_mul c (h.depth.0 + h.start.0) h.timescale.0 in
+      low r (e ∙ sym (ap (λ t. cond t 0 (since_depth h c)) (ne_eqb h.depth.0 0 n))) (omega (arith, t.small))
 
   -- ---- the upper edge
 
@@ -67,29 +59,14 @@ module _ (h : Head) (c : ℕ) where
     within : a + u - s ≤ farthest
     within = omega (arith, at.small, ahead.small)
 
-    pub high_early : a + u ≤ s → Past 0 (high_edge h c)
-    high_early l =
-        let none : since_start h c ≡ 0 = omega (arith, upto) in
-        let cut : cut_n h 0 ≡ 0 = ap (λ n. cond (end_known h) n 0) (min-zero (end_at h)) ∙ either (end_known h) 0 in
-        high 0 (sym (ap (cut_n h) none ∙ cut)) (omega arith)
-
     pub high_open : h.duration.0 ≡ 0 → Past (a + u - s) (high_edge h c)
     high_open e = high (a + u - s) (upto ∙ sym (cut_open (since_start h c) e)) within
 
-    module _ (e : ℕ) (n : h.duration.0 ≡ 0 → ⊥) (q : Product e h.duration.0 h.timescale.0 (largest_millis * largest_timescale)) where
-      ends : high_n h c ≡ min e (a + u - s)
-      ends = cut_known (since_start h c) n ∙ ap₂ min (sym q.is) (sym upto)
-
-      pub high_end : e < a + u - s → Past e (high_edge h c)
-      high_end l = high e (sym (ends ∙ min-eq_left (le_of_lt l))) (omega (arith, q.small))
-
-      pub high_clock : a + u - s ≤ e → Past (a + u - s) (high_edge h c)
-      high_clock l = high (a + u - s) (sym (ends ∙ min-eq_right l)) within
+    pub high_known : (e : ℕ) → (h.duration.0 ≡ 0 → ⊥) → Product e h.duration.0 h.timescale.0 (largest_millis * largest_timescale) →
+        Past (min e (a + u - s)) (high_edge h c)
+    high_known e n q = high (min e (a + u - s)) (sym (cut_known (since_start h c) n ∙ ap₂ min (sym q.is) (sym upto))) (omega (arith, q.small))
 
   -- ---- the period end
-
-  pub before_open : h.duration.0 ≡ 0 → true ≡ before_end h c
-  before_open e = sym (before_is h c ∙ ap (λ t. cond t (ltb (c * 1000) (h.offset.0 * 1000 + end_at h)) true) (not_known h e))
 
   pub before_ends : (e o p a b : ℕ) → (h.duration.0 ≡ 0 → ⊥) → Product e h.duration.0 h.timescale.0 (largest_millis * largest_timescale) → Product o h.offset.0 1000 a →
       Product p c 1000 b → ltb p (o + e) ≡ before_end h c

@@ -6,11 +6,11 @@ use native.Mathlib.Nat.{le_antisymm, le_refl}
 use native.Mathlib.Omega.{arith}
 use borrow.Author.Tests.{leb-true, le-leb, lt-leb, leb-false}
 use lib.Dec.{leb, ltb}
+use Rattle.std.specs.Prelude.{Option, Some, None}
 use Rattle.window.specs.declared.Head.{Head}
 use Rattle.window.specs.declared.Passed.{Passed}
 use Rattle.window.specs.declared.Passed.TheVariants.{All, Upto}
-use Rattle.window.specs.declared.Needed.{Needed}
-use Rattle.window.specs.declared.Needed.TheVariants.{Nothing, Ticks}
+use Rattle.window.specs.declared.Ticks.{Ticks}
 use Rattle.window.specs.Window.{Stretch}
 use Rattle.window.specs.Ticks.{is_passed, EndsPassed, named, NamesSome, NeededTicks, LeastCount}
 use Rattle.window.proofs.Ranges.{in_range_lem, range_first, range_last}
@@ -38,16 +38,16 @@ within a b c d l same =
     let m : b - 1 < d = range_last c d (b - 1) (sym (same (b - 1)) ∙ in_range_lem a b (b - 1) (omega arith) (omega arith)) in
     (range_first c d a (sym (same a) ∙ in_range_lem a b a (le_refl a) l), omega arith)
 
-same_named : (m n : Needed) → NamesSome m → NamesSome n → ((k : ℕ) → named m k ≡ named n k) → m ≡ n
-same_named Nothing Nothing x y same = refl
-same_named Nothing (Ticks c d) x y same = absurd (false≢true (same c.0 ∙ in_range_lem c.0 d.0 c.0 (le_refl c.0) y))
-same_named (Ticks a b) Nothing x y same = absurd (true≢false (sym (in_range_lem a.0 b.0 a.0 (le_refl a.0) x) ∙ same a.0))
-same_named (Ticks a b) (Ticks c d) x y same =
-    let there = within a.0 b.0 c.0 d.0 x same in
-    let back = within c.0 d.0 a.0 b.0 y (λ k. sym (same k)) in
-    ap₂ (λ (m n : ℕ). Ticks (record { 0 = m }) (record { 0 = n })) (le_antisymm back.0 there.0) (le_antisymm there.1 back.1)
+same_named : (m n : Option Ticks) → NamesSome m → NamesSome n → ((k : ℕ) → named m k ≡ named n k) → m ≡ n
+same_named None None x y same = refl
+same_named None (Some t) x y same = absurd (false≢true (same t.first.0 ∙ in_range_lem t.first.0 t.end.0 t.first.0 (le_refl t.first.0) y))
+same_named (Some t) None x y same = absurd (true≢false (sym (in_range_lem t.first.0 t.end.0 t.first.0 (le_refl t.first.0) x) ∙ same t.first.0))
+same_named (Some t) (Some u) x y same =
+    let there = within t.first.0 t.end.0 u.first.0 u.end.0 x same in
+    let back = within u.first.0 u.end.0 t.first.0 t.end.0 y (λ k. sym (same k)) in
+    ap₂ (λ (m n : ℕ). Some (record { first = record { 0 = m }; end = record { 0 = n } })) (le_antisymm back.0 there.0) (le_antisymm there.1 back.1)
 
-pub one_needed : (h : Head) (w : Stretch) (m n : Needed) → NeededTicks h w m → NeededTicks h w n → m ≡ n
+pub one_needed : (h : Head) (w : Stretch) (m n : Option Ticks) → NeededTicks h w m → NeededTicks h w n → m ≡ n
 one_needed h w m n x y = same_named m n x.some y.some (λ k. sym (x.each k) ∙ y.each k)
 
 -- ---- counts

@@ -1,11 +1,9 @@
 -- The limits of a head: each field within the limit of its own unit. Fields that come make a head where all of them are, and are
 -- refused with 1 else. Paper: Units; Refusal numbers, 1.
-use Rattle.std.specs.Prelude.{ℕ, ◌≤◌, Bool, cond, ◌&&◌}
+use Rattle.std.specs.Prelude.{ℕ, ◌≤◌, Bool, cond, ◌&&◌, Option, Some, None}
 use Rattle.units.specs.Limits.{largest_tick, largest_millis, largest_timescale, largest_number, tick_held, millis_held, timescale_held, number_held}
 use Rattle.window.specs.declared.Head.{Head}
 use Rattle.window.specs.declared.HeadFields.{HeadFields}
-use Rattle.window.specs.declared.HeadMade.{HeadMade}
-use Rattle.window.specs.declared.HeadMade.TheVariants.{Made, Refused}
 
 abbrev pub head_held : Head → Bool
 head_held h =
@@ -38,13 +36,13 @@ fields_of h =
       update = h.update.0;
     }
 
-abbrev pub head_made : HeadFields → HeadMade
-head_made f = cond (head_held (head_of f)) (Made (head_of f)) Refused
+abbrev pub head_made : HeadFields → Option Head
+head_made f = cond (head_held (head_of f)) (Some (head_of f)) None
 
 -- 1: a head field is over its limit, or the timescale is 0
-abbrev pub head_number : HeadMade → ℕ
-head_number (Made h) = 0
-head_number Refused = 1
+abbrev pub head_number : Option Head → ℕ
+head_number (Some h) = 0
+head_number None = 1
 
 -- the same limits as facts that a proof reads
 pub record Held (h : Head) : Type 0 where

@@ -1,12 +1,11 @@
 -- What the questions about a window are answered with, and when an answer is right. Paper: Window, needed, spent; The file
 -- (negative r).
-use Rattle.std.specs.Prelude.{ℕ, ◌+◌, ◌*◌, ◌≤◌, ◌<◌, ◌≡◌, Bool, true, false, ◌&&◌, leb, ltb}
+use Rattle.std.specs.Prelude.{ℕ, ◌+◌, ◌*◌, ◌≤◌, ◌<◌, ◌≡◌, Bool, true, false, ◌&&◌, Option, Some, None, leb, ltb}
 use Rattle.std.specs.Int.Signed.{le_z}
 use Rattle.window.specs.declared.Head.{Head}
 use Rattle.window.specs.declared.Passed.{Passed}
 use Rattle.window.specs.declared.Passed.TheVariants.{All, Upto}
-use Rattle.window.specs.declared.Needed.{Needed}
-use Rattle.window.specs.declared.Needed.TheVariants.{Nothing, Ticks}
+use Rattle.window.specs.declared.Ticks.{Ticks}
 use Rattle.window.specs.Place.{place, period_end}
 use Rattle.window.specs.Window.{Stretch, passed, tick_needed}
 
@@ -20,17 +19,17 @@ abbrev pub EndsPassed : Head → ℕ → Passed → Type 0
 EndsPassed h c p = (e : ℕ) → passed h e c ≡ is_passed p e
 
 -- the ticks that an answer names: from the first up to the second, that one excluded
-abbrev pub named : Needed → ℕ → Bool
-named Nothing k = false
-named (Ticks a b) k = leb a.0 k && ltb k b.0
+abbrev pub named : Option Ticks → ℕ → Bool
+named None k = false
+named (Some t) k = leb t.first.0 k && ltb k t.end.0
 
 -- an answer that names ticks names one at least
-abbrev pub NamesSome : Needed → Type 0
-NamesSome Nothing = Unit {0}
-NamesSome (Ticks a b) = a.0 < b.0
+abbrev pub NamesSome : Option Ticks → Type 0
+NamesSome None = Unit {0}
+NamesSome (Some t) = t.first.0 < t.end.0
 
 -- it names exactly the ticks that the window needs
-pub record NeededTicks (h : Head) (w : Stretch) (n : Needed) : Type 0 where
+pub record NeededTicks (h : Head) (w : Stretch) (n : Option Ticks) : Type 0 where
   pub some : NamesSome n
   pub each : (k : ℕ) → tick_needed h w k ≡ named n k
 

@@ -4,16 +4,16 @@
 ghost use Rattle.std.specs.Prelude.{◌≡◌};
 ghost use Rattle.window.specs.Limits.{head_held, fields_of, head_made};
 
-use units::{
-    Millis, MillisMade, Number, NumberMade, Span, Tick, TickMade, Timescale, TimescaleMade,
-    WideTick,
-};
+use units::{Limited, Millis, Number, Span, Tick, Timescale, WideTick};
 
 mod edges;
+mod held;
 mod questions;
 
+pub use held::HeldHead;
+
 // What a timeline is opened with. Every rule about time asks a head.
-#[derive(Clone, Copy)]
+#[derive(Clone, Copy, Default)]
 pub struct Head {
     pub timescale: Timescale,
     pub offset: Tick,
@@ -36,12 +36,6 @@ pub struct HeadFields {
     pub update: u64,
 }
 
-#[derive(Clone, Copy)]
-pub enum HeadMade {
-    Made(Head),
-    Refused,
-}
-
 // One media segment: where it starts, and for how many ticks it lasts.
 #[derive(Clone, Copy)]
 pub struct Reference {
@@ -50,17 +44,18 @@ pub struct Reference {
 }
 
 // Which ends a clock has passed: every one, or those up to a tick.
+// No Option: its None would have to mean that every end is passed, which is no plainer.
 #[derive(Clone, Copy)]
 pub enum Passed {
     All,
     Upto(WideTick),
 }
 
-// Which ticks a window needs: none, or those from one up to another, that one excluded.
+// The ticks that a window needs: those from the first up to the end, that one excluded.
 #[derive(Clone, Copy)]
-pub enum Needed {
-    Nothing,
-    Ticks(WideTick, WideTick),
+pub struct Ticks {
+    pub first: WideTick,
+    pub end: WideTick,
 }
 
 impl Head {
@@ -68,64 +63,44 @@ impl Head {
     pub fn held(self) -> bool
         ensures { result ≡ head_held self }
     {
-        let timescale = self.timescale.held();
-        let offset = self.offset.held();
-        let start = self.start.held();
-        let duration = self.duration.held();
-        let depth = self.depth.held();
-        let first = self.first.held();
-        let update = self.update.held();
-        timescale & offset & start & duration & depth & first & update
+        self.timescale.held()
+            && self.offset.held()
+            && self.start.held()
+            && self.duration.held()
+            && self.depth.held()
+            && self.first.held()
+            && self.update.held()
     }
 
     // The head of some fields, where each is within the limit of its unit.
-    pub fn new(fields: HeadFields) -> HeadMade
+    pub fn new(fields: HeadFields) -> Option<Self>
         ensures { result ≡ head_made fields }
     {
-        let TimescaleMade::Made(timescale) = Timescale::new(fields.timescale) else {
-            return HeadMade::Refused;
-        };
-        let TickMade::Made(offset) = Tick::new(fields.offset) else {
-            return HeadMade::Refused;
-        };
-        let MillisMade::Made(start) = Millis::new(fields.start) else {
-            return HeadMade::Refused;
-        };
-        let MillisMade::Made(duration) = Millis::new(fields.duration) else {
-            return HeadMade::Refused;
-        };
-        let MillisMade::Made(depth) = Millis::new(fields.depth) else {
-            return HeadMade::Refused;
-        };
-        let NumberMade::Made(first) = Number::new(fields.first) else {
-            return HeadMade::Refused;
-        };
-        let MillisMade::Made(update) = Millis::new(fields.update) else {
-            return HeadMade::Refused;
-        };
-        HeadMade::Made(Head {
-            timescale,
-            offset,
-            start,
-            duration,
-            depth,
-            first,
-            update,
+        Some(Head {
+            timescale: Timescale::new(fields.timescale)?,
+            offset: Tick::new(fields.offset)?,
+            start: Millis::new(fields.start)?,
+            duration: Millis::new(fields.duration)?,
+            depth: Millis::new(fields.depth)?,
+            first: Number::new(fields.first)?,
+            update: Millis::new(fields.update)?,
         })
     }
+}
 
-    // Its fields, as a line of a file has them.
-    pub fn fields(self) -> HeadFields
-        ensures { result ≡ fields_of self }
-    {
+// The fields of a head, as a line of a file has them.
+impl From<Head> for HeadFields {
+    ghost from_gives = { λ head fields. fields ≡ fields_of head };
+
+    fn from(head: Head) -> HeadFields {
         HeadFields {
-            timescale: self.timescale.0,
-            offset: self.offset.0,
-            start: self.start.0,
-            duration: self.duration.0,
-            depth: self.depth.0,
-            first: self.first.0,
-            update: self.update.0,
+            timescale: head.timescale.0,
+            offset: head.offset.0,
+            start: head.start.0,
+            duration: head.duration.0,
+            depth: head.depth.0,
+            first: head.first.0,
+            update: head.update.0,
         }
     }
 }

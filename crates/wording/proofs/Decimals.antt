@@ -1,21 +1,18 @@
--- Decimal text: it needs no count of tenths, it is the fewest digits that hold the number, and it reads back. A number of 64 bits has 20 at most.
+-- Decimal text: it needs no count of tenths, it is the fewest digits that hold the number, and it reads back.
 use mathlib.Core.Path.{◌≡◌, refl, sym, ap, ap₂, subst, subst⁻¹, ◌∙◌}
 use mathlib.Core.Bool.{Bool, true, false, cond, ◌&&◌}
 use mathlib.Core.List.{List, [], ◌∷◌, ◌++◌, append_assoc}
 use Prim.Native.Nat.{ℕ, zero, suc, ◌+◌, ◌-◌, ◌*◌, ◌/◌, ◌%◌, ◌^◌, ◌≤◌, ◌<◌}
-use native.Mathlib.Nat.{pow-suc, one-le-pow, pow-le-pow_right, mod-eq_of_lt}
+use native.Mathlib.Nat.{pow-suc, one-le-pow, mod-eq_of_lt}
 use native.Mathlib.Numerals.{sub-one}
 use native.Mathlib.Omega.{arith}
-use borrow.Author.Tests.{le-leb, lt-ltb, le-ltb, ltb-true, ltb-false, leb-true, leb-false}
-use lib.Dec.{leb, ltb}
-use lib.ListN.{length, take}
-use mir.Syntax.{w64}
-use mir.Val.{Fits}
-use Rattle.io.specs.Counts.{IsPrefixLen}
+use borrow.Author.Tests.{le-leb, lt-ltb, le-ltb, ltb-true, ltb-false}
+use lib.Dec.{ltb}
+use lib.ListN.{take}
 use Rattle.io.specs.Digits.{hex_digit_ascii, last_digits, IsDigitCount}
 use Rattle.wording.specs.Text.{digit, decimal_by, decimal, begins_with_digit, read_from}
 use Rattle.wording.specs.Placing.{Put}
-use Rattle.wording.proofs.Placed.{put_put}
+use Rattle.wording.proofs.Placed.{put_as}
 
 -- ---- the count of tenths plays no part
 
@@ -112,30 +109,7 @@ pub decimal_read : (n : ℕ) (behind : List ℕ) → begins_with_digit behind �
 unfolding decimal
 decimal_read n behind e = read_by n n behind (omega arith) ∙ read_ends n behind e
 
-pub few_digits : (n k : ℕ) → n < 2 ^ 64 → IsDigitCount 10 1 n k → k ≤ 20
-few_digits n k small w = go (leb k 20) refl
-  where
-    go : (t : Bool) → leb k 20 ≡ t → k ≤ 20
-    go true e = leb-true k 20 e
-    go false e =
-        let more : 20 < k = leb-false k 20 e in
-        let least : 10 ^ (k - 1) ≤ n = w.2 (omega arith) in
-        let ten : 0 < 10 = omega arith in
-        let large : 10 ^ 20 ≤ 10 ^ (k - 1) = pow-le-pow_right ten {i = 20} {j = k - 1} (omega arith) in
-        let z : ⊥ = omega arith in
-        absurd z
+-- ---- the first digits of a buffer, put
 
--- ---- a number put behind a text
-
-module _ (out text out₁ buf : List ℕ) (at next n k : ℕ) (small : Fits w64 n) (c : IsPrefixLen k buf) (w : IsDigitCount 10 1 n k) (p : Put out at text out₁ next) where
-  pub number_room : at + length text + 20 ≤ length out → next + length (take k buf) ≤ length out₁
-  number_room r = omega (arith, few_digits n k small.fits w, c.1, p.place, p.long)
-
-  module _ (out₂ : List ℕ) (m : ℕ) (q : Put out₁ next (take k buf) out₂ m) where
-    pub number_put : take k buf ≡ last_digits 10 k n → Put out at (text ++ decimal n) out₂ m
-    number_put e =
-        let same : take k buf ≡ decimal n = e ∙ fewest_decimal n k w in
-        put_put out at text out₁ next p (decimal n) out₂ m (subst (λ ds. Put out₁ next ds out₂ m) same q)
-
-    pub number_few : m ≤ at + length text + 20
-    number_few = omega (arith, few_digits n k small.fits w, c.1, p.place, q.place)
+pub number_put : (n k : ℕ) (buf : List ℕ) {out after : List ℕ} {at m : ℕ} → IsDigitCount 10 1 n k → take k buf ≡ last_digits 10 k n → Put out at (take k buf) after m → Put out at (decimal n) after m
+number_put n k buf w e p = put_as (e ∙ fewest_decimal n k w) p

@@ -2,7 +2,7 @@
 -- `refused 16 line 2`, or `refused 4 line 3 by 9` of a gap or an overlap, numbers in decimal. A share is covered, needed and the percent, rounded down;
 -- what lacks is the lowest tick that is not covered; a refusal has its number and its line, and line 0 where it is the verdict's. Paper: The file (the
 -- program writes one line).
-use Rattle.std.specs.Prelude.{ℕ, zero, suc, ◌+◌, ◌-◌, ◌*◌, ◌/◌, ◌%◌, ◌≡◌, Bool, false, cond, ◌&&◌, List, [], ◌∷◌, ◌++◌, eqb, leb, ltb, length, drop}
+use Rattle.std.specs.Prelude.{Result, Err, Ok, ℕ, zero, suc, ◌+◌, ◌-◌, ◌*◌, ◌/◌, ◌%◌, ◌≡◌, Bool, false, cond, ◌&&◌, List, [], ◌∷◌, ◌++◌, eqb, leb, ltb, length, drop}
 use Rattle.io.specs.Digits.{last_digits, IsDigitCount}
 use Rattle.units.specs.declared.WideMillis.{WideMillis}
 use Rattle.agreement.specs.declared.Record.{Record}
@@ -13,8 +13,11 @@ use Rattle.answers.specs.declared.Verdict.TheVariants as verdict
 use Rattle.answers.specs.Judgement.{verdict_at, verdict_whole}
 use Rattle.answers.specs.Shares.{percent_of, percent_number}
 use Rattle.hexdigits.specs.Ascii.{ascii}
-use Rattle.wording.specs.declared.Reply.{Reply}
-use Rattle.wording.specs.declared.Reply.TheVariants.{Judged, Refused}
+use Rattle.wording.specs.declared.RefusedLine.{RefusedLine}
+
+-- what is told: a verdict, or why and at which line something was refused
+abbrev pub Reply : Type 0
+Reply = Result Verdict RefusedLine
 
 abbrev pub line_feed : ℕ
 line_feed = 10
@@ -48,19 +51,18 @@ share_text needed covered =
 unfoldable pub distance_text : ℕ → List ℕ
 distance_text distance = cond (eqb distance 0) [] (ascii " by " ++ decimal distance)
 
-unfoldable pub refused_text : Refusal → ℕ → List ℕ
-refused_text why line =
-    ascii "refused " ++ decimal (refusal_number why) ++ ascii " line " ++ decimal line ++ distance_text (refusal_distance why) ++ line_feed ∷ []
+unfoldable pub refused_text : RefusedLine → List ℕ
+refused_text r =
+    ascii "refused " ++ decimal (refusal_number r.why) ++ ascii " line " ++ decimal r.line ++ distance_text (refusal_distance r.why) ++ line_feed ∷ []
 
 unfoldable pub verdict_text : Verdict → List ℕ
 verdict_text verdict.Nothing = ascii "nothing needed" ++ line_feed ∷ []
 verdict_text (verdict.Complete needed) = ascii "complete " ++ share_text needed needed
 verdict_text (verdict.Lacking needed covered lowest) = ascii "lacking " ++ decimal lowest.0 ++ ascii " " ++ share_text needed covered
-verdict_text (verdict.Refused why) = refused_text why 0
 
 unfoldable pub text_of : Reply → List ℕ
-text_of (Judged v) = verdict_text v
-text_of (Refused why line) = refused_text why line
+text_of (Ok v) = verdict_text v
+text_of (Err r) = refused_text r
 
 -- a text over the front of some bytes, the rest as it came
 abbrev pub over : List ℕ → List ℕ → List ℕ
@@ -69,11 +71,11 @@ over text bytes = text ++ drop (length text) bytes
 -- ---- THE THEOREM: the figures in a line are right. Proved by `figures` of proofs/Figures.antt
 
 -- what the percent that is shown must be: of a complete verdict 100, of one that lacks covered times 100 by needed, rounded down
-abbrev pub PercentRight : Verdict → Type 0
-PercentRight verdict.Nothing = Unit {0}
-PercentRight (verdict.Complete needed) = percent_number (percent_of needed needed) ≡ 100
-PercentRight (verdict.Lacking needed covered lowest) = percent_number (percent_of needed covered) ≡ covered * 100 / needed
-PercentRight (verdict.Refused why) = Unit {0}
+abbrev pub PercentRight : Result Verdict Refusal → Type 0
+PercentRight (Ok verdict.Nothing) = Unit {0}
+PercentRight (Ok (verdict.Complete needed)) = percent_number (percent_of needed needed) ≡ 100
+PercentRight (Ok (verdict.Lacking needed covered lowest)) = percent_number (percent_of needed covered) ≡ covered * 100 / needed
+PercentRight (Err why) = Unit {0}
 
 abbrev pub is_decimal : ℕ → Bool
 is_decimal b = leb 48 b && leb b 57

@@ -9,9 +9,13 @@ mod parts;
 
 pub use lines::put_line;
 
-// What is told: a verdict, or why the clock line or a line of the file was refused, and which.
+// Why the clock line, a line of the file or the verdict was refused, and at which line: 0 where it is none
+// of the file's.
 #[derive(Clone, Copy)]
-pub enum Reply {
-    Judged(Verdict),
-    Refused(Refusal, u64),
+pub struct RefusedLine {
+    pub why: Refusal,
+    pub line: u64,
 }
+
+// What is told: a verdict, or a refusal.
+pub type Reply = Result<Verdict, RefusedLine>;

@@ -1,45 +1,68 @@
 // The answer's one line. The longest has four numbers of at most 20 digits, and 13 bytes besides.
-ghost use Rattle.std.specs.Prelude.{◌≡◌, ◌≤◌, length};
-ghost use Rattle.answers.specs.declared.Verdict.TheVariants.{Lacking};
+ghost use Rattle.std.specs.Prelude.{◌≡◌, length};
+ghost use Rattle.answers.specs.declared.Verdict.TheVariants.{Complete, Lacking};
 ghost use Rattle.wording.specs.Text.{refused_text, verdict_text, text_of, over};
 ghost use Rattle.wording.specs.Placing.{Put};
 
-use crate::{Reply, parts};
-use agreement::Refusal;
+use crate::parts::Line;
+use crate::{RefusedLine, Reply};
 use answers::Verdict;
 use units::WideTick;
 
-// Inner, since there must be room.
-fn put_refused(out: &mut [u8], why: Refusal, line: u64) -> usize
-    requires { 93 ≤ length out.old }
-    ensures { Put out.old 0 (refused_text why line) out.new result }
-{
-    let number = why.number() as u64;
-    let between = parts::put_number(out, 0, b"refused ", number);
-    let behind = parts::put_number(out, between, b" line ", line);
-    let end = parts::put_distance(out, behind, why.distance());
-    parts::put(out, end, b"\n")
-}
+// Inner, since there must be room: nothing is written yet.
+impl Line {
+    fn put_refused(&mut self, refused: RefusedLine)
+        requires { self.old.at ≡ 0 }
+        ensures { Put self.old.bytes self.old.at (refused_text refused) self.new.bytes self.new.at }
+    {
+        let why = refused.why;
+        self.put(b"refused ");
+        self.put_number(u64::from(why.number()));
+        self.put(b" line ");
+        self.put_number(refused.line);
+        self.put_distance(why.distance());
+        self.put(b"\n");
+    }
 
-// Inner, since there must be room.
-fn put_lacking(out: &mut [u8], needed: u64, covered: u64, lowest: WideTick) -> usize
-    requires { 93 ≤ length out.old }
-    ensures { Put out.old 0 (verdict_text (Lacking needed covered lowest)) out.new result }
-{
-    let blank = parts::put_number(out, 0, b"lacking ", lowest.0);
-    parts::put_share(out, blank, b" ", needed, covered)
-}
+    fn put_complete(&mut self, needed: u64)
+        requires { self.old.at ≡ 0 }
+        ensures { Put self.old.bytes self.old.at (verdict_text (Complete needed)) self.new.bytes self.new.at }
+    {
+        self.put(b"complete ");
+        self.put_share(needed, needed);
+    }
 
-// Inner, since there must be room.
-fn put_verdict(out: &mut [u8], verdict: Verdict) -> usize
-    requires { 93 ≤ length out.old }
-    ensures { Put out.old 0 (verdict_text verdict) out.new result }
-{
-    match verdict {
-        Verdict::Nothing => parts::put(out, 0, b"nothing needed\n"),
-        Verdict::Complete(needed) => parts::put_share(out, 0, b"complete ", needed, needed),
-        Verdict::Lacking(needed, covered, lowest) => put_lacking(out, needed, covered, lowest),
-        Verdict::Refused(why) => put_refused(out, why, 0),
+    fn put_lacking(&mut self, needed: u64, covered: u64, lowest: WideTick)
+        requires { self.old.at ≡ 0 }
+        ensures { Put self.old.bytes self.old.at (verdict_text (Lacking needed covered lowest)) self.new.bytes self.new.at }
+    {
+        self.put(b"lacking ");
+        self.put_number(lowest.0);
+        self.put(b" ");
+        self.put_share(needed, covered);
+    }
+
+    #[tactic(auto, unfolding(crate::specs::Text::verdict_text, hexdigits::specs::Ascii::ascii))]
+    fn put_verdict(&mut self, verdict: Verdict)
+        requires { self.old.at ≡ 0 }
+        ensures { Put self.old.bytes self.old.at (verdict_text verdict) self.new.bytes self.new.at }
+    {
+        match verdict {
+            Verdict::Nothing => self.put(b"nothing needed\n"),
+            Verdict::Complete(needed) => self.put_complete(needed),
+            Verdict::Lacking(needed, covered, lowest) => self.put_lacking(needed, covered, lowest),
+        }
+    }
+
+    #[tactic(auto, unfolding(crate::specs::Text::text_of))]
+    fn put_reply(&mut self, reply: Reply)
+        requires { self.old.at ≡ 0 }
+        ensures { Put self.old.bytes self.old.at (text_of reply) self.new.bytes self.new.at }
+    {
+        match reply {
+            Ok(verdict) => self.put_verdict(verdict),
+            Err(refused) => self.put_refused(refused),
+        }
     }
 }
 
@@ -48,8 +71,8 @@ pub fn put_line(out: &mut [u8; 93], reply: Reply) -> usize
     ensures value { result ≡ length (text_of reply) }
     ensures out_after { out.new ≡ over (text_of reply) out.old }
 {
-    match reply {
-        Reply::Judged(verdict) => put_verdict(out, verdict),
-        Reply::Refused(why, line) => put_refused(out, why, line),
-    }
+    let mut line = Line { bytes: *out, at: 0 };
+    line.put_reply(reply);
+    *out = line.bytes;
+    line.at
 }

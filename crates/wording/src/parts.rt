@@ -1,62 +1,64 @@
-// The parts of a line, each from a place of the output on.
-ghost use Rattle.std.specs.Prelude.{◌∷◌, ◌++◌, ◌+◌, ◌≤◌, length};
+// The line while it is written, part behind part. It is no Display: there is no heap, and `put_line` promises
+// every byte of its output, those behind the text too (`out_after`).
+ghost use Rattle.std.specs.Prelude.{◌+◌, ◌≤◌, length};
 ghost use Rattle.wording.specs.Text.{decimal, distance_text, share_text};
 ghost use Rattle.wording.specs.Placing.{Put};
 
-// Inner, since there must be room: a text from a place on. The place behind it.
-pub(crate) fn put(out: &mut [u8], at: usize, text: &[u8]) -> usize
-    requires { at + length text.now ≤ length out.old }
-    ensures { Put out.old at text.now out.new result }
-{
-    let mut i = 0;
-    while i < text.len() {
-        out[at + i] = text[i];
-        i += 1;
+// The output, and the place behind what is written of it.
+#[derive(Clone, Copy)]
+pub(crate) struct Line {
+    pub(crate) bytes: [u8; 93],
+    pub(crate) at: usize,
+}
+
+// Inner, since there must be room.
+impl Line {
+    // A text.
+    pub(crate) fn put(&mut self, text: &[u8])
+        requires { self.old.at + length text.now ≤ 93 }
+        ensures { Put self.old.bytes self.old.at text.now self.new.bytes self.new.at }
+    {
+        let next = self.at + text.len();
+        self.bytes[self.at..next].copy_from_slice(text);
+        self.at = next;
     }
-    at + i
-}
 
-// Inner, since there must be room: a text and a number behind it.
-pub(crate) fn put_number(out: &mut [u8], at: usize, text: &[u8], n: u64) -> usize
-    requires { at + length text.now + 20 ≤ length out.old }
-    ensures put { Put out.old at (text.now ++ decimal n) out.new result }
-    ensures upper_bound { result ≤ at + length text.now + 20 }
-{
-    let mut digits = [0u8; 20];
-    let count = io::decimal(n, &mut digits);
-    let next = put(out, at, text);
-    put(out, next, &digits[..count])
-}
-
-// Inner, since there must be room: a text, and behind it covered, a slash (47) and needed.
-fn put_counts(out: &mut [u8], at: usize, text: &[u8], needed: u64, covered: u64) -> usize
-    requires { at + length text.now + 41 ≤ length out.old }
-    ensures put { Put out.old at (text.now ++ decimal covered ++ 47 ∷ decimal needed) out.new result }
-    ensures upper_bound { result ≤ at + length text.now + 41 }
-{
-    let slash = put_number(out, at, text, covered);
-    put_number(out, slash, b"/", needed)
-}
-
-// Inner, since there must be room: a text and a share behind it.
-pub(crate) fn put_share(out: &mut [u8], at: usize, text: &[u8], needed: u64, covered: u64) -> usize
-    requires { at + length text.now + 64 ≤ length out.old }
-    ensures { Put out.old at (text.now ++ share_text needed covered) out.new result }
-{
-    let percent = answers::shares::percent(needed, covered).number();
-    let blank = put_counts(out, at, text, needed, covered);
-    let sign = put_number(out, blank, b" ", percent);
-    put(out, sign, b"%\n")
-}
-
-// Inner, since there must be room: the distance of a gap or an overlap, nothing where there is none.
-pub(crate) fn put_distance(out: &mut [u8], at: usize, distance: u64) -> usize
-    requires { at + 24 ≤ length out.old }
-    ensures put { Put out.old at (distance_text distance) out.new result }
-    ensures upper_bound { result ≤ at + 24 }
-{
-    if distance == 0 {
-        return at;
+    // A number in decimal.
+    pub(crate) fn put_number(&mut self, n: u64)
+        requires { self.old.at + 20 ≤ 93 }
+        ensures put { Put self.old.bytes self.old.at (decimal n) self.new.bytes self.new.at }
+        ensures upper_bound { self.new.at ≤ self.old.at + 20 }
+    {
+        let mut digits = [0u8; 20];
+        let count = io::decimal(n, &mut digits);
+        self.put(&digits[..count]);
     }
-    put_number(out, at, b" by ", distance)
+
+    // Covered and needed, and the percent.
+    pub(crate) fn put_share(&mut self, needed: u64, covered: u64)
+        requires { self.old.at + 64 ≤ 93 }
+        ensures { Put self.old.bytes self.old.at (share_text needed covered) self.new.bytes self.new.at }
+    {
+        let percent = answers::shares::percent(needed, covered).unwrap_or(0);
+        self.put_number(covered);
+        self.put(b"/");
+        self.put_number(needed);
+        self.put(b" ");
+        self.put_number(percent);
+        self.put(b"%\n");
+    }
+
+    // The distance of a gap or an overlap, nothing where there is none.
+    #[tactic(auto, unfolding(crate::specs::Text::distance_text))]
+    pub(crate) fn put_distance(&mut self, distance: u64)
+        requires { self.old.at + 24 ≤ 93 }
+        ensures put { Put self.old.bytes self.old.at (distance_text distance) self.new.bytes self.new.at }
+        ensures upper_bound { self.new.at ≤ self.old.at + 24 }
+    {
+        if distance == 0 {
+            return;
+        }
+        self.put(b" by ");
+        self.put_number(distance);
+    }
 }

@@ -1,66 +1,53 @@
--- The lengths, by the code's tests, and what it says that nothing is wrong with them.
-use mathlib.Core.Path.{◌≡◌, refl, sym, ◌∙◌}
+-- The lengths: what the record that lent words mean, or the refusal for a length, says of the number that a call is guarded by.
+use mathlib.Core.Path.{◌≡◌, refl, sym, ap, ◌∙◌}
 use mathlib.Core.Bool.{Bool, true, false, cond}
-use Prim.Native.Nat.{ℕ, suc}
-use native.Mathlib.Omega.{arith}
-use borrow.Author.Tests.{eqb-true}
+use mathlib.Core.List.{List}
+use Prim.Native.Nat.{ℕ}
+use borrow.Author.Tests.{eqb-true, eq-eqb}
 use lib.Dec.{eqb}
-use Rattle.units.proofs.Guards.{same, other}
-use Rattle.words.specs.Words.{record_words}
-use Rattle.words.specs.Lengths.{wrong_record, wrong_length}
+use lib.ListN.{length}
+use Rattle.std.specs.Prelude.{Result, Ok, Err}
+use Rattle.agreement.specs.declared.Record.{Record}
+use Rattle.agreement.specs.declared.refusal.Refusal.{Refusal}
+use Rattle.agreement.specs.declared.refusal.Refusal.TheVariants.{Disagreement, ShortOutput}
+use Rattle.agreement.specs.Numbers.{refusal_number}
+use Rattle.words.specs.Words.{record_words, record_of}
+use Rattle.words.specs.Lengths.{wrong_record, wrong_length, record_in, record_beside}
 
--- ---- the number
+-- right lengths give the record that the words mean, and wrong ones the refusal that has the number
+pub record Guards (r : Result Record Refusal) (wrong : ℕ) (ws : List ℕ) : Type 0 where
+  pub right : (rec : Record) → r ≡ Ok rec → (rec ≡ record_of ws) × (length ws ≡ record_words) × (0 ≡ wrong)
+  pub stopped : (why : Refusal) → r ≡ Err why → refusal_number why ≡ wrong
 
-pub record_wrong : (l r : ℕ) → (l ≡ record_words → ⊥) → r ≡ 2 → r ≡ wrong_record l
-unfolding wrong_record
-record_wrong l r k e = other l record_words _ _ _ k e
+pub guards_in : (ws : List ℕ) → Guards (record_in ws) (wrong_record (length ws)) ws
+unfolding record_in wrong_record
+guards_in ws = go (eqb (length ws) record_words) refl
+  where
+    go : (t : Bool) → eqb (length ws) record_words ≡ t → Guards (cond t (Ok (record_of ws)) (Err Disagreement)) (cond t 0 (refusal_number Disagreement)) ws
+    go true e = record { right = λ rec k. (cc, eqb-true (length ws) record_words e, refl); stopped = λ why k. cc }
+    go false e = record { right = λ rec k. cc; stopped = λ why k. cc }
 
-pub record_right : (l : ℕ) → l ≡ record_words → 0 ≡ wrong_record l
-unfolding wrong_record
-record_right l e = same l record_words _ _ e
+pub guards_beside : (ws : List ℕ) (out size : ℕ) → Guards (record_beside ws out size) (wrong_length (length ws) out size) ws
+unfolding record_beside wrong_length
+guards_beside ws out size = go (eqb (length ws) record_words) refl (eqb out size)
+  where
+    go : (t : Bool) → eqb (length ws) record_words ≡ t → (u : Bool) →
+        Guards (cond t (cond u (Ok (record_of ws)) (Err ShortOutput)) (Err Disagreement)) (cond t (cond u 0 (refusal_number ShortOutput)) (refusal_number Disagreement)) ws
+    go true e true = record { right = λ rec k. (cc, eqb-true (length ws) record_words e, refl); stopped = λ why k. cc }
+    go true e false = record { right = λ rec k. cc; stopped = λ why k. cc }
+    go false e u = record { right = λ rec k. cc; stopped = λ why k. cc }
 
--- ---- what 0 says
+-- and out has its size
+pub beside_size : (ws : List ℕ) (out size : ℕ) (rec : Record) → record_beside ws out size ≡ Ok rec → out ≡ size
+unfolding record_beside
+beside_size ws out size rec k = go (eqb (length ws) record_words) (eqb out size) refl k
+  where
+    go : (t u : Bool) → eqb out size ≡ u → cond t (cond u (Ok (record_of ws)) (Err ShortOutput)) (Err Disagreement) ≡ Ok rec → out ≡ size
+    go true true e k = eqb-true out size e
+    go true false e k = cc
+    go false u e k = cc
 
-nothing_wrong : (n : ℕ) (t : Bool) → cond t 0 (suc n) ≡ 0 → t ≡ true
-nothing_wrong n true e = refl
-nothing_wrong n false e = let z : ⊥ = omega arith in absurd z
-
-nor_second : (s t : Bool) → ◌≡◌ {A = ℕ} (cond s (cond t 0 15) 2) 0 → (s ≡ true) × (t ≡ true)
-nor_second true t e = (refl, nothing_wrong 14 t e)
-nor_second false t e = let z : ⊥ = omega arith in absurd z
-
-pub is_record : (r l : ℕ) → r ≡ wrong_record l → r ≡ 0 → l ≡ record_words
-unfolding wrong_record
-is_record r l e z = eqb-true l record_words (nothing_wrong 1 (eqb l record_words) (sym e ∙ z))
-
-module _ (r l m size : ℕ) where
-  pub first_right : r ≡ wrong_length l m size → r ≡ 0 → l ≡ record_words
-  unfolding wrong_length
-  first_right e z = eqb-true l record_words (nor_second (eqb l record_words) (eqb m size) (sym e ∙ z)).0
-
-  pub second_right : r ≡ wrong_length l m size → r ≡ 0 → m ≡ size
-  unfolding wrong_length
-  second_right e z = eqb-true m size (nor_second (eqb l record_words) (eqb m size) (sym e ∙ z)).1
-
--- ---- the record's length, then that of out
-
-module _ (r l m size : ℕ) (e : r ≡ wrong_record l) where
-  pub first_wrong : (r ≡ 0 → ⊥) → r ≡ wrong_length l m size
-  unfolding wrong_length wrong_record
-  first_wrong k = go (eqb l record_words) e
-    where
-      go : (t : Bool) → r ≡ cond t 0 2 → r ≡ cond t (cond (eqb m size) 0 15) 2
-      go true f = absurd (k f)
-      go false f = f
-
-  module _ (z : r ≡ 0) where
-    pub second_wrong : (n : ℕ) → (m ≡ size → ⊥) → n ≡ 15 → n ≡ wrong_length l m size
-    unfolding wrong_length
-    second_wrong n k f = other m size _ _ _ k f ∙ same l record_words _ _ (is_record r l e z)
-
-    pub neither_wrong : m ≡ size → 0 ≡ wrong_length l m size
-    unfolding wrong_length
-    neither_wrong f = same m size _ _ f ∙ same l record_words _ _ (is_record r l e z)
-
+-- right lengths are guarded by 0
 pub both_right : (l m size : ℕ) → l ≡ record_words → m ≡ size → 0 ≡ wrong_length l m size
-both_right l m size e f = neither_wrong 0 l m size (record_right l e) refl f
+unfolding wrong_length
+both_right l m size e f = sym (ap (λ t. cond t (cond (eqb m size) 0 15) 2) (eq-eqb l record_words e) ∙ ap (λ t. cond t 0 15) (eq-eqb m size f))

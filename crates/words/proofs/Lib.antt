@@ -1,4 +1,3 @@
--- Laws of a record and of answers as words that belong to no one function.
+-- Laws of a record as words and of lengths that belong to no one function.
 pub mod Words
-pub mod Telling
 pub mod Lengths

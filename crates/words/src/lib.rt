@@ -2,17 +2,25 @@
 // right, and what each answer puts into the caller's `out`. Who calls an inner one has tested the lengths.
 #![tactic(auto)]
 
+ghost use Rattle.std.specs.Prelude.{◌≡◌, List};
+
 mod changing;
 mod filing;
-mod judging;
-mod looking;
 mod measuring;
 mod packing;
-mod putting;
+mod showing;
+mod telling;
 
 pub use changing::{give_appended, give_back};
-pub use filing::{give_read, tell_written};
-pub use judging::{tell_edge, tell_verdict};
-pub use looking::{tell_availability, tell_available, tell_full_tick, tell_touching};
-pub use measuring::{wrong_length, wrong_record};
-pub use packing::record_of;
+pub use filing::give_read;
+pub use measuring::record_beside;
+pub use packing::record_in;
+pub use telling::tell;
+
+// An answer that is told in N words.
+pub trait Told<W: Copy, const N: usize> {
+    ghost shown: { Self → List W };
+
+    fn words(self) -> [W; N]
+        ensures { result ≡ shown self };
+}

@@ -1,31 +1,18 @@
-// The lengths of a record and of `out`, and the number that a call answers where one is wrong.
+// The lengths of a record and of `out`: where one is wrong, a call is refused for it before all else.
 ghost use Rattle.std.specs.Prelude.{◌≡◌};
-ghost use Rattle.words.specs.Lengths.{wrong_record, wrong_length};
+ghost use Rattle.words.specs.Lengths.{record_beside};
 
-use agreement::Refusal;
+use crate::packing::record_in;
+use agreement::{Record, Refusal};
 
-const RECORD_WORDS: usize = 12;
-
-// The number by the record's length: 0 where it is right.
-pub fn wrong_record(words: usize) -> u32
-    ensures { result ≡ wrong_record words }
+// The record that words mean, beside an `out` of so many words that must have its size.
+#[tactic(auto, unfolding(crate::specs::Lengths::record_in, crate::specs::Lengths::record_beside))]
+pub fn record_beside(words: &[u64], out: usize, size: usize) -> Result<Record, Refusal>
+    ensures { result ≡ record_beside words.now out size }
 {
-    if words != RECORD_WORDS {
-        return Refusal::Disagreement.number();
-    }
-    0
-}
-
-// The number by the record's length, then by that of out: 0 where both are right.
-pub fn wrong_length(words: usize, out: usize, size: usize) -> u32
-    ensures { result ≡ wrong_length words out size }
-{
-    let wrong = wrong_record(words);
-    if wrong != 0 {
-        return wrong;
-    }
+    let rec = record_in(words)?;
     if out != size {
-        return Refusal::ShortOutput.number();
+        return Err(Refusal::ShortOutput);
     }
-    0
+    Ok(rec)
 }

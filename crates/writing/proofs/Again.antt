@@ -26,7 +26,7 @@ use Rattle.runs.proofs.EndToStart.{join_back, references_append, references_of_r
 use Rattle.runs.proofs.Tables.{table_runs, table_length_lem}
 use Rattle.agreement.specs.declared.Record.{Record}
 use Rattle.agreement.specs.Agreement.{kept, every, counts_held, agrees}
-use Rattle.keeping.specs.declared.Outcome.TheVariants as outcome
+use Rattle.std.specs.Prelude.{Ok}
 use Rattle.keeping.specs.Keeping.{unspent, words_keeping}
 use Rattle.keeping.specs.Append.{given, all_of, unspent_of, room_outcome, fit_outcome, appended}
 use Rattle.keeping.proofs.Unspent.{unspent_every, every_append}
@@ -42,7 +42,7 @@ module _ (t : Reference → Bool) (xs ys : List Reference) (e : every t (xs ++ y
 -- ---- an append that meets every condition is accepted
 
 fit_accepted : (rec : Record) (ws : List ℕ) (d n : ℕ) → rec.next.0 + d * n ≤ largest_tick → counts_held rec.head.first.0 (rec.accepted + n) ≡ true →
-    every (λ r. before_end rec.head r.start.0) (given rec d n) ≡ true → runs_for (unspent_of rec ws d n) ≤ capacity ws → fit_outcome rec ws d n ≡ outcome.Accepted
+    every (λ r. before_end rec.head r.start.0) (given rec d n) ≡ true → runs_for (unspent_of rec ws d n) ≤ capacity ws → fit_outcome rec ws d n ≡ Ok tt
 unfolding fit_outcome room_outcome
 fit_accepted rec ws d n e c b r =
     simp (le-leb (rec.next.0 + d * n) largest_tick e, c, b, le-leb (runs_for (unspent_of rec ws d n)) (capacity ws) r)
@@ -152,7 +152,7 @@ module _ (h : Head) (t words : ℕ) (xs : List Run) (x : Run) (ys : List Run) (k
   unfolding more
   end_is = ap (λ (s : ℕ). s + x.span.0 * x.count) (sym joins) ∙ sym (references_end t xs x (leads x [] lead).some)
 
-  pub step_accepted : append_outcome (record_of h t xs) (table_of words xs) Joins x.span.0 x.count ≡ outcome.Accepted
+  pub step_accepted : append_outcome (record_of h t xs) (table_of words xs) Joins x.span.0 x.count ≡ Ok tt
   unfolding rec ws
   step_accepted =
       let l = leads x [] lead in

@@ -20,8 +20,8 @@ use Rattle.runs.proofs.Encoded.{leads}
 use Rattle.agreement.specs.declared.Record.{Record}
 use Rattle.agreement.specs.declared.refusal.Refusal.TheVariants as refusal
 use Rattle.agreement.specs.Agreement.{agrees}
-use Rattle.keeping.specs.declared.Outcome.{Outcome}
-use Rattle.keeping.specs.declared.Outcome.TheVariants as outcome
+use Rattle.std.specs.Prelude.{Err, Ok, Some}
+use Rattle.keeping.specs.Keeping.{Outcome}
 use Rattle.keeping.specs.Keeping.{words_by}
 use Rattle.timeline.specs.Opening.{fresh_record, open_outcome}
 use Rattle.timeline.specs.Appending.{append_outcome}
@@ -55,7 +55,7 @@ unended_line f = unended (line_of f) (no_feed f)
 -- frames taken one after another
 abbrev take_frames : File → List Frame → File
 take_frames x [] = x
-take_frames x (f ∷ fs) = take_frames (on_frame x.reading.stage x.reading x.words f) fs
+take_frames x (f ∷ fs) = take_frames (on_frame x.reading.stage x.reading x.words (Some f)) fs
 
 pub ended_before : (f : Frame) (bs : List ℕ) → ended_line f ++ bs ≡ line_of f ++ line_feed ∷ bs
 unfolding ended_line
@@ -68,7 +68,7 @@ lines_of_frames (f ∷ fs) a x =
     ap (λ bs. take_lines x (lines_from [] bs)) (ended_before f (bytes_of fs)) ∙
     ap (take_lines x) (line_next [] (line_of f) (bytes_of fs) (unended_line f)) ∙
     ap (λ g. take_lines (on_frame x.reading.stage x.reading x.words g) (lines_from [] (bytes_of fs))) (frame_written_read f a.0) ∙
-    lines_of_frames fs a.1 (on_frame x.reading.stage x.reading x.words f)
+    lines_of_frames fs a.1 (on_frame x.reading.stage x.reading x.words (Some f))
 
 pub rest_of_frames : (fs : List Frame) → rest_from [] (bytes_of fs) ≡ []
 unfolding bytes_of rest_from
@@ -148,9 +148,9 @@ module _ (h : Head) (words : ℕ) (x : Run) (ys : List Run) (k : Takeable h x.st
   tick_small : x.start.0 ≤ largest_tick
   tick_small = omega (arith, (leads x ys k.shape).ends)
 
-  opens : open_outcome h (record { 0 = x.start.0 }) ≡ outcome.Accepted
+  opens : open_outcome h (record { 0 = x.start.0 }) ≡ Ok tt
   unfolding open_outcome
-  opens = ap₂ (λ a b. cond (a && b) outcome.Accepted (outcome.Refused refusal.OverLimit)) k.held (le-leb x.start.0 largest_tick tick_small)
+  opens = ap₂ (λ a b. cond (a && b) (Ok tt) (Err refusal.OverLimit)) k.held (le-leb x.start.0 largest_tick tick_small)
 
   fresh_is : fresh_record h (record { 0 = x.start.0 }) ≡ record_of h x.start.0 []
   unfolding references_of last_end
@@ -166,11 +166,11 @@ module _ (h : Head) (words : ℕ) (x : Run) (ys : List Run) (k : Takeable h x.st
   headed : Reading
   headed = record { stage = Headed; lines = 0 + 1; rec = fresh_record h (record { 0 = 0 }) }
 
-  head_taken : on_frame Nothing (begun came).reading came (head_frame h) ≡ record { reading = headed; words = came }
+  head_taken : on_frame Nothing (begun came).reading came (Some (head_frame h)) ≡ record { reading = headed; words = came }
   unfolding on_nothing take_head headed
   head_taken = ap (λ b. cond b (taken Headed (begun came).reading (fresh_record h (record { 0 = 0 })) came) (refused refusal.OverLimit (begun came).reading came)) k.held
 
-  first_taken : on_frame Headed headed came (s_frame x.start.0 x) ≡ runs_taken h x.start.0 words (x ∷ []) Open 2
+  first_taken : on_frame Headed headed came (Some (s_frame x.start.0 x)) ≡ runs_taken h x.start.0 words (x ∷ []) Open 2
   unfolding on_headed take_first_s headed
   first_taken =
       let s : SFields = record { t = record { 0 = x.start.0 }; d = x.span.0; r = x.count - 1 } in

@@ -1,29 +1,28 @@
 -- What is written: a line goes into the rest of the output, and the lines of a file one behind the other are the file.
-use mathlib.Core.Path.{◌≡◌, refl, sym, ap, ap₂, subst, subst⁻¹, ◌∙◌}
+use mathlib.Core.Path.{◌≡◌, refl, sym, ap, ap₂, subst⁻¹, ◌∙◌}
 use mathlib.Core.Bool.{Bool, true, false, cond}
 use mathlib.Core.List.{List, [], ◌∷◌, ◌++◌, append_assoc, append-nil}
 use Prim.Native.Nat.{ℕ, zero, suc, ◌+◌, ◌-◌, ◌*◌, ◌^◌, ◌≤◌, ◌<◌}
 use native.Mathlib.Numerals.{add-one}
 use native.Mathlib.Omega.{arith}
-use borrow.Author.Tests.{eq-eqb, ne_eqb}
+use borrow.Author.Tests.{ne_eqb}
 use borrow.Rule.Slice.PartMut.{put_mid, same_len_mid}
 use lib.Dec.{eqb}
-use lib.ListN.{length, get_or, take, drop, length-append, length-drop, length-take, drop_of_length-le}
-use lib.Seq.{take_at, drop_at, take_all, take-suc, drop-drop}
+use lib.ListN.{length, get_or, take, drop, take-append-drop, length-append, length-drop, length-take, drop_of_length-le}
+use lib.Seq.{take_at, drop_at, take_all, drop-drop}
 use mir.Syntax.{w64}
 use mir.Val.{Fits as FitsWord}
 use Rattle.units.specs.Limits.{largest_span}
 use Rattle.runs.specs.declared.Run.{Run}
-use Rattle.runs.specs.Words.{run_at, runs_of, kept_in, references_of}
+use Rattle.runs.specs.Words.{runs_of, kept_in, references_of}
 use Rattle.runs.specs.Shape.{runs_shaped, shaped}
-use Rattle.runs.proofs.Opening.{references_in, runs_length, repeated_length, run_counted, runs_from}
-use Rattle.runs.proofs.Encoded.{Leads, leads, shaped_drop}
+use Rattle.runs.proofs.Opening.{references_in, runs_length, repeated_length}
+use Rattle.runs.proofs.Encoded.{Leads, leads}
 use Rattle.runs.proofs.Tables.{runs_shaped_lem}
-use Rattle.runs.proofs.Walking.{place_there}
 use Rattle.frames.specs.Fields.{all_ones}
 use Rattle.frames.specs.declared.Frame.{Frame}
-use Rattle.frames.specs.declared.Frame.TheVariants.{Bad}
 use Rattle.frames.specs.Frames.{Fits, line_length, ended_length, kind_of, ended_line, Written as WrittenLine}
+use Rattle.frames.proofs.Lines.{length_ended}
 use Rattle.writing.specs.Writing.{s_frame, later_frames, s_frames, bytes_of}
 
 -- ---- the rest of an output
@@ -42,30 +41,23 @@ tail_put out p rest line ys at n e l k =
 
 -- ---- the frames of runs
 
-later_at : (rs : List Run) (i : ℕ) (other : Run) → i < length rs → get_or (later_frames rs) i Bad ≡ s_frame all_ones (get_or rs i other)
-unfolding later_frames
-later_at [] i other h = let z : ⊥ = omega arith in absurd z
-later_at (r ∷ rs) zero other h = refl
-later_at (r ∷ rs) (suc i) other h = later_at rs i other (omega arith)
+-- the frames of the runs that are left behind so many
+abbrev pub frames_left : ℕ → List Run → List Frame
+frames_left zero rs = s_frames rs
+frames_left (suc n) rs = later_frames rs
 
-s_at : (rs : List Run) (i : ℕ) (other : Run) → i < length rs →
-    get_or (s_frames rs) i Bad ≡ s_frame (cond (eqb i 0) (get_or rs i other).start.0 all_ones) (get_or rs i other)
-unfolding s_frames
-s_at [] i other h = let z : ⊥ = omega arith in absurd z
-s_at (r ∷ rs) zero other h = refl
-s_at (r ∷ rs) (suc i) other h =
-    later_at rs i other (omega arith) ∙
-    ap (λ t. s_frame (cond t (get_or rs i other).start.0 all_ones) (get_or rs i other)) (sym (ne_eqb (suc i) 0 (λ z. let w : ⊥ = omega arith in w)))
+frames_more : (i : ℕ) (r : Run) (rs : List Run) → frames_left i (r ∷ rs) ≡ s_frame (cond (eqb i 0) r.start.0 all_ones) r ∷ frames_left (i + 1) rs
+unfolding s_frames later_frames
+frames_more zero r rs = refl
+frames_more (suc i) r rs =
+    let later : eqb (suc i) 0 ≡ false = ne_eqb (suc i) 0 (λ z. let w : ⊥ = omega arith in w) in
+    let next : suc (suc i) ≡ suc i + 1 = omega arith in
+    ap₂ (λ (t : Bool) (n : ℕ). s_frame (cond t r.start.0 all_ones) r ∷ frames_left n rs) (sym later) next
 
-later_length : (rs : List Run) → length (later_frames rs) ≡ length rs
-unfolding later_frames
-later_length [] = refl
-later_length (r ∷ rs) = ap suc (later_length rs)
-
-frames_length : (rs : List Run) → length (s_frames rs) ≡ length rs
-unfolding s_frames
-frames_length [] = refl
-frames_length (r ∷ rs) = ap suc (later_length rs)
+frames_none : (i : ℕ) → frames_left i [] ≡ []
+unfolding s_frames later_frames
+frames_none zero = refl
+frames_none (suc i) = refl
 
 pub bytes_append : (fs gs : List Frame) → bytes_of (fs ++ gs) ≡ bytes_of fs ++ bytes_of gs
 unfolding bytes_of
@@ -74,7 +66,7 @@ bytes_append (f ∷ fs) gs = ap (λ bs. ended_line f ++ bs) (bytes_append fs gs)
 
 -- an S line that can be written
 pub s_fits : (t : ℕ) (r : Run) → t < 2 ^ 64 → r.span.0 ≤ largest_span → r.count ≤ 2 ^ 31 → Fits (s_frame t r)
-s_fits t r a b c = record { known = refl; fields = (omega arith, (omega arith, (omega arith, tt))) }
+s_fits t r a b c = record { fields = (omega arith, (omega arith, (omega arith, tt))) }
 
 -- a run has no more references than all runs, and there are no more runs than references
 pub run_few : (rs : List Run) (i : ℕ) (other : Run) → i < length rs → (get_or rs i other).count ≤ length (references_of rs)
@@ -93,142 +85,145 @@ runs_few (r ∷ rs) s =
     let n = runs_few rs l.rest in
     omega (arith, length-append (references_in r) (references_of rs), repeated_length r.start.0 r.span.0 r.count, l.some)
 
--- ---- the S line of a run of the table
-
-module _ (ws : List ℕ) (i : ℕ) (r : Run) (e : r ≡ run_at ws (i * 3)) where
-  pub s_counts : 1 ≤ (run_at ws (i * 3)).count → 1 ≤ r.count
-  s_counts h = subst⁻¹ (λ (x : Run). 1 ≤ x.count) e h
-
-  pub s_first : i ≡ 0 → s_frame r.start.0 r ≡ s_frame (cond (eqb i 0) (run_at ws (i * 3)).start.0 all_ones) (run_at ws (i * 3))
-  s_first z =
-      ap (λ (x : Run). s_frame x.start.0 x) e ∙
-      sym (ap (λ t. s_frame (cond t (run_at ws (i * 3)).start.0 all_ones) (run_at ws (i * 3))) (eq-eqb i 0 z))
-
-  pub s_later : (i ≡ 0 → ⊥) → s_frame all_ones r ≡ s_frame (cond (eqb i 0) (run_at ws (i * 3)).start.0 all_ones) (run_at ws (i * 3))
-  s_later n =
-      ap (λ (x : Run). s_frame all_ones x) e ∙
-      sym (ap (λ t. s_frame (cond t (run_at ws (i * 3)).start.0 all_ones) (run_at ws (i * 3))) (ne_eqb i 0 n))
-
 -- ---- the S lines of a table, one by one
 
-pub record Lined (ws : List ℕ) (used : ℕ) (out₀ out : List ℕ) (at i : ℕ) : Type 0 where
-  pub within : i ≤ used
+-- so many lines stand in front, and those of the runs left are still to come
+pub record Lined (all out₀ out : List ℕ) (at i : ℕ) (left : List Run) : Type 0 where
   pub place : at ≡ ended_length 2 * i
   pub long : length out ≡ length out₀
-  pub bytes : out ≡ bytes_of (take i (s_frames (runs_of used ws))) ++ drop at out₀
+  pub written : take at out ++ bytes_of (frames_left i left) ≡ all
+  pub rest : drop at out ≡ drop at out₀
 
-module _ (ws : List ℕ) (used : ℕ) (out₀ : List ℕ) (h : (shaped used ws ≡ true) × (length (kept_in used ws) ≤ 2 ^ 31) × (ended_length 2 * used ≤ length out₀)) where
-  pub lined_none : Lined ws used out₀ out₀ 0 0
-  unfolding bytes_of
-  lined_none = record { within = omega arith; place = omega arith; long = refl; bytes = refl }
+-- the runs left can be written: they are shaped, with few enough references, and there is room for their lines
+pub record Room (room i : ℕ) (left : List Run) : Type 0 where
+  pub shape : runs_shaped left ≡ true
+  pub few : length (references_of left) ≤ 2 ^ 31
+  pub lines : ended_length 2 * (i + length left) ≤ room
 
-  module _ (out : List ℕ) (at i : ℕ) (w : Lined ws used out₀ out at i) where
-    pub lined_there : i < used → at ≤ length out
-    lined_there l = omega (arith, w.place, w.long, h.2)
+-- before the first
+module _ (ws : List ℕ) (used i : ℕ) (left : List Run) (z : i ≡ 0) (e : left ≡ runs_of used ws) where
+  pub first_counted : i + length left ≡ used
+  first_counted = omega (arith, ap length e, runs_length used ws)
 
-    module _ (l : i < used) where
-      here : Run
-      here = run_at ws (i * 3)
+  pub lined_first : (out : List ℕ) (at : ℕ) → at ≡ 0 → Lined (bytes_of (s_frames (runs_of used ws))) out out at i left
+  lined_first out at y =
+      record {
+        place = omega arith;
+        long = refl;
+        written = ap₂ (λ (k n : ℕ). take k out ++ bytes_of (frames_left n left)) y z ∙ ap (λ rs. bytes_of (s_frames rs)) e;
+        rest = refl;
+      }
 
-      here_leads : Leads here (drop (i + 1) (runs_of used ws))
-      unfolding here
-      here_leads = leads here (drop (i + 1) (runs_of used ws)) (subst (λ rs. runs_shaped rs ≡ true) (runs_from used i ws l) (shaped_drop i (runs_of used ws) (runs_shaped_lem used ws h.0)))
+  pub room_first : (room : ℕ) → shaped used ws ≡ true → length (kept_in used ws) ≤ 2 ^ 31 → ended_length 2 * used ≤ room → Room room i left
+  room_first room shape few lines =
+      record {
+        shape = ap runs_shaped e ∙ runs_shaped_lem used ws shape;
+        few = subst⁻¹ (λ rs. length (references_of rs) ≤ 2 ^ 31) e few;
+        lines = omega (arith, ap length e, runs_length used ws);
+      }
 
-      pub lined_run : (i * 3 + 2 < length ws) × (1 ≤ (run_at ws (i * 3)).count)
-      unfolding here
-      lined_run = (place_there used ws h.0 i l, here_leads.some)
+-- the frame of a run at a place
+pub placed : (f : Frame) (r : Run) (place i : ℕ) → f ≡ s_frame (cond (eqb place 0) r.start.0 all_ones) r → place ≡ i → f ≡ s_frame (cond (eqb i 0) r.start.0 all_ones) r
+placed f r place i e same = e ∙ ap (λ (k : ℕ). s_frame (cond (eqb k 0) r.start.0 all_ones) r) same
 
-      time : ℕ
-      time = cond (eqb i 0) (run_at ws (i * 3)).start.0 all_ones
+pub next_counted : (left : List Run) (r : Run) (rs : List Run) → left ≡ r ∷ rs → (i next used : ℕ) → i + length left ≡ used → next ≡ i + 1 → next + length rs ≡ used
+next_counted left r rs opened i next used counted e = omega (arith, ap length opened)
 
-      time_small : time < 2 ^ 64
-      unfolding time here
-      time_small = go (eqb i 0)
-        where
-          go : (t : Bool) → cond t (run_at ws (i * 3)).start.0 all_ones < 2 ^ 64
-          go true = omega (arith, here_leads.ends)
-          go false = omega arith
+pub index_fits : (i long used : ℕ) → i + long ≡ used → FitsWord w64 used → i + long < 2 ^ 64
+index_fits i long used counted fits = omega (arith, fits.fits)
 
-      few : here.count ≤ 2 ^ 31
-      unfolding here
-      few =
-          subst (λ (r : Run). r.count ≤ 2 ^ 31) (run_counted used ws i here l)
-          (omega (arith, run_few (runs_of used ws) i here (omega (arith, runs_length used ws)), h.1))
+module _ (all out₀ out : List ℕ) (at i : ℕ) (left : List Run) (w : Lined all out₀ out at i left) where
+  module _ (used : ℕ) (counted : i + length left ≡ used) (none : left ≡ []) where
+    pub lined_length : at ≡ ended_length 2 * used
+    lined_length = omega (arith, ap length none, w.place)
 
-      fits : Fits (s_frame time here)
-      unfolding here
-      fits = s_fits time here time_small here_leads.short few
+    pub lined_all : out ≡ all ++ drop (ended_length 2 * used) out₀
+    unfolding bytes_of
+    lined_all =
+        let over : bytes_of (frames_left i left) ≡ [] = ap (λ rs. bytes_of (frames_left i rs)) none ∙ ap bytes_of (frames_none i) in
+        sym (take-append-drop at out) ∙
+        ap₂ ◌++◌ (sym (append-nil (take at out)) ∙ ap (λ bs. take at out ++ bs) (sym over) ∙ w.written) w.rest ∙
+        ap (λ (n : ℕ). all ++ drop n out₀) lined_length
+
+  module _ (p : Room (length out₀) i left) where
+    pub lined_there : at ≤ length out
+    lined_there = omega (arith, w.place, w.long, p.lines)
+
+    module _ (r : Run) (rs : List Run) (opened : left ≡ r ∷ rs) where
+      here : Leads r rs
+      here = leads r rs (ap runs_shaped (sym opened) ∙ p.shape)
+
+      pub lined_some : 1 ≤ r.count
+      lined_some = here.some
+
+      many : length (references_of left) ≡ r.count + length (references_of rs)
+      unfolding references_of
+      many =
+          ap (λ xs. length (references_of xs)) opened ∙
+          length-append (references_in r) (references_of rs) ∙
+          ap (λ (n : ℕ). n + length (references_of rs)) (repeated_length r.start.0 r.span.0 r.count)
+
+      longer : length left ≡ length rs + 1
+      longer = ap length opened ∙ sym (add-one (length rs))
+
+      pub room_more : (next : ℕ) → next ≡ i + 1 → Room (length out₀) next rs
+      room_more next e =
+          record { shape = here.rest; few = omega (arith, many, p.few); lines = omega (arith, longer, p.lines) }
+
+      time_small : (t : Bool) → cond t r.start.0 all_ones < 2 ^ 64
+      time_small true = omega (arith, here.ends)
+      time_small false = omega arith
+
+      fits : Fits (s_frame (cond (eqb i 0) r.start.0 all_ones) r)
+      fits = s_fits (cond (eqb i 0) r.start.0 all_ones) r (time_small (eqb i 0)) here.short (omega (arith, many, p.few))
 
       part_long : length (take (length out - at) (drop at out)) ≡ length out - at
-      part_long =
-          length-take (length out - at) (drop at out) ∙
-          omega (arith, length-drop at out)
+      part_long = length-take (length out - at) (drop at out) ∙ omega (arith, length-drop at out)
 
-      module _ (f : Frame) (e : f ≡ s_frame (cond (eqb i 0) (run_at ws (i * 3)).start.0 all_ones) (run_at ws (i * 3))) where
+      module _ (f : Frame) (e : f ≡ s_frame (cond (eqb i 0) r.start.0 all_ones) r) where
         pub lined_asks : Fits f × (line_length (kind_of f) < length (take (length out - at) (drop at out)))
-        unfolding time here
         lined_asks =
             subst⁻¹ (λ g. Fits g × (line_length (kind_of g) < length (take (length out - at) (drop at out)))) e
-            (fits, omega (arith, part_long, w.place, w.long, h.2))
+            (fits, omega (arith, part_long, w.place, w.long, longer, p.lines))
 
         module _ (n : ℕ) (ys : List ℕ) (k : WrittenLine f (take (length out - at) (drop at out)) ys n) where
           step : n ≡ ended_length 2
           step = k.long ∙ ap (λ g. line_length (kind_of g) + 1) e
 
           pub lined_fits : length out₀ < 2 ^ 64 → FitsWord w64 (at + n)
-          lined_fits b = record { fits = omega (arith, step, w.place, h.2) }
+          lined_fits b = record { fits = omega (arith, step, w.place, longer, p.lines) }
 
-          next_bytes : bytes_of (take i (s_frames (runs_of used ws))) ++ ended_line f ≡ bytes_of (take (i + 1) (s_frames (runs_of used ws)))
-          unfolding bytes_of
-          next_bytes =
-              let fs = s_frames (runs_of used ws) in
-              let there : i < length fs = omega (arith, frames_length (runs_of used ws), runs_length used ws) in
-              let same : f ≡ get_or fs i Bad =
-              e ∙
-              ap (λ (r : Run). s_frame (cond (eqb i 0) r.start.0 all_ones) r) (sym (run_counted used ws i (run_at ws (i * 3)) l)) ∙
-              sym (s_at (runs_of used ws) i (run_at ws (i * 3)) (omega (arith, runs_length used ws)))
-              in
-              ap (λ bs. bytes_of (take i fs) ++ bs) (ap ended_line same ∙ sym (append-nil (ended_line (get_or fs i Bad)))) ∙
-              sym (bytes_append (take i fs) (get_or fs i Bad ∷ [])) ∙
-              ap bytes_of (sym (take-suc fs i Bad there) ∙ ap (λ (m : ℕ). take m fs) (sym (add-one i)))
+          front : length (take at out) ≡ at
+          front = length-take at out ∙ omega (arith, lined_there)
 
-          front : length (bytes_of (take i (s_frames (runs_of used ws)))) ≡ at
-          front =
-              omega (
-                arith,
-                ap length w.bytes,
-                length-append (bytes_of (take i (s_frames (runs_of used ws)))) (drop at out₀),
-                length-drop at out₀,
-                w.long,
-                w.place,
-                h.2,
-              )
+          line_long : length (ended_line f) ≡ n
+          line_long = length_ended f lined_asks.0 ∙ sym k.long
 
-          now_bytes : put_mid at (length out - at) out ys ≡ bytes_of (take (i + 1) (s_frames (runs_of used ws))) ++ drop (at + n) out₀
+          now_bytes : put_mid at (length out - at) out ys ≡ (take at out ++ ended_line f) ++ drop n (drop at out)
           now_bytes =
-              tail_put out (bytes_of (take i (s_frames (runs_of used ws)))) (drop at out₀) (ended_line f) ys at n w.bytes front
-              (k.bytes ∙ ap (λ (m : ℕ). ended_line f ++ drop m (take (length out - at) (drop at out))) (sym k.long)) ∙
-              ap₂ ◌++◌ next_bytes (drop-drop n at out₀)
+              tail_put out (take at out) (drop at out) (ended_line f) ys at n (sym (take-append-drop at out)) front
+              (k.bytes ∙ ap (λ (m : ℕ). ended_line f ++ drop m (take (length out - at) (drop at out))) (sym k.long))
 
-          pub lined_more : length ys ≡ length (take (length out - at) (drop at out)) → Lined ws used out₀ (put_mid at (length out - at) out ys) (at + n) (i + 1)
-          lined_more s =
+          now_long : length (take at out ++ ended_line f) ≡ at + n
+          now_long = omega (arith, length-append (take at out) (ended_line f), front, line_long)
+
+          pub lined_more : length ys ≡ length (take (length out - at) (drop at out)) → (next : ℕ) → next ≡ i + 1 →
+              Lined all out₀ (put_mid at (length out - at) out ys) (at + n) next rs
+          unfolding bytes_of
+          lined_more s next y =
               record {
-                within = omega arith;
                 place = omega (arith, step, w.place);
                 long = same_len_mid at (length out - at) out ys s ∙ w.long;
-                bytes = now_bytes;
+                written =
+                    ap₂ ◌++◌ (ap (take (at + n)) now_bytes ∙ take_at (take at out ++ ended_line f) (drop n (drop at out)) (at + n) now_long) (ap (λ (m : ℕ). bytes_of (frames_left m rs)) y) ∙
+                    append_assoc (take at out) (ended_line f) (bytes_of (frames_left (i + 1) rs)) ∙
+                    ap (λ g. take at out ++ (ended_line g ++ bytes_of (frames_left (i + 1) rs))) e ∙
+                    ap (λ fs. take at out ++ bytes_of fs) (sym (frames_more i r rs)) ∙
+                    ap (λ xs. take at out ++ bytes_of (frames_left i xs)) (sym opened) ∙
+                    w.written;
+                rest =
+                    ap (drop (at + n)) now_bytes ∙
+                    drop_at (take at out ++ ended_line f) (drop n (drop at out)) (at + n) now_long ∙
+                    ap (drop n) w.rest ∙
+                    drop-drop n at out₀;
               }
-
-    module _ (done : used ≤ i) where
-      all : i ≡ used
-      all = omega (arith, w.within)
-
-      pub lined_length : at ≡ ended_length 2 * used
-      lined_length = w.place ∙ ap (λ (n : ℕ). ended_length 2 * n) all
-
-      pub lined_all : out ≡ bytes_of (s_frames (runs_of used ws)) ++ drop (ended_length 2 * used) out₀
-      lined_all =
-          w.bytes ∙
-          ap₂ (λ (fs : List Frame) (m : ℕ). bytes_of fs ++ drop m out₀)
-          (take_all i (s_frames (runs_of used ws)) (omega (arith, frames_length (runs_of used ws), runs_length used ws)))
-          lined_length

@@ -24,7 +24,7 @@ use Rattle.runs.proofs.Tables.{used_fits, runs_shaped_lem, runs_for_kept, canoni
 use Rattle.agreement.specs.declared.Record.{Record}
 use Rattle.agreement.specs.Agreement.{kept, every, agrees}
 use Rattle.agreement.proofs.Agreeing.{Agreeing, agreeing}
-use Rattle.keeping.specs.declared.Outcome.TheVariants as outcome
+use Rattle.std.specs.Prelude.{Ok}
 use Rattle.keeping.specs.Keeping.{words_keeping, words_by}
 use Rattle.frames.specs.Fields.{all_ones}
 use Rattle.frames.specs.declared.Frame.{Frame}
@@ -167,7 +167,7 @@ module _ (rec : Record) (ws : List ℕ) (a : agrees rec ws ≡ true) (came : Lis
         lines_of_frames frames fit (begun came) ∙
         frames_taken head (length came) x ys takeable came refl
 
-    ends : read_outcome (file_for rec ws) came ≡ outcome.Accepted
+    ends : read_outcome (file_for rec ws) came ≡ Ok tt
     unfolding read_outcome come
     ends =
         ap₂ (λ (y : File) (n : ℕ). stop_outcome y.reading.stage n) lines_are
@@ -191,11 +191,11 @@ module _ (rec : Record) (ws : List ℕ) (a : agrees rec ws ≡ true) (came : Lis
         last_is ∙
         ap (λ (u : ℕ). record { head = kept_head rec; accepted = length (kept rec ws); dropped = 0; next = rec.next; clock = record { 0 = 0 }; used = u }) many
 
-    answer_is : read_answer (file_for rec ws) came ≡ record { outcome = outcome.Accepted; rec = read_back rec ws; line = 0 }
+    answer_is : read_answer (file_for rec ws) came ≡ record { outcome = Ok tt; rec = read_back rec ws; line = 0 }
     unfolding read_answer come
     answer_is =
         ap₂ answered_by ends (ap (λ (y : File). y.reading) lines_are) ∙
-        ap (λ (y : Record). record { outcome = outcome.Accepted; rec = y; line = 0 }) record_is
+        ap (λ (y : Record). record { outcome = Ok tt; rec = y; line = 0 }) record_is
 
     table_is : read_table (file_for rec ws) came ≡ words_keeping came (kept rec ws)
     unfolding read_table words_by come
@@ -205,12 +205,12 @@ module _ (rec : Record) (ws : List ℕ) (a : agrees rec ws ≡ true) (came : Lis
 
   module _ (some : rec.used ≡ 0 → ⊥) where
     -- a file that we write reads back: the same references under the same numbers, in a table with room for their runs
-    pub read_back_lem : (read_answer (file_for rec ws) came ≡ record { outcome = outcome.Accepted; rec = read_back rec ws; line = 0 }) ×
+    pub read_back_lem : (read_answer (file_for rec ws) came ≡ record { outcome = Ok tt; rec = read_back rec ws; line = 0 }) ×
         (read_table (file_for rec ws) came ≡ words_keeping came (kept rec ws))
     read_back_lem = go (runs_of rec.used ws) refl
       where
         go : (rs : List Run) → runs_of rec.used ws ≡ rs →
-            (read_answer (file_for rec ws) came ≡ record { outcome = outcome.Accepted; rec = read_back rec ws; line = 0 }) ×
+            (read_answer (file_for rec ws) came ≡ record { outcome = Ok tt; rec = read_back rec ws; line = 0 }) ×
             (read_table (file_for rec ws) came ≡ words_keeping came (kept rec ws))
         go [] e = absurd (some (sym (runs_length rec.used ws) ∙ ap length e))
         go (x ∷ ys) e = (answer_is x ys e, table_is x ys e)
@@ -226,7 +226,7 @@ same_file rec other ws vs h k = ap₂ file_of h k
 
 -- ---- an accepted reading
 
-module _ (bytes came : List ℕ) (o : read_outcome bytes came ≡ outcome.Accepted) where
+module _ (bytes came : List ℕ) (o : read_outcome bytes came ≡ Ok tt) where
   -- reading what was written from it gives the same words, and writing that gives the same file
   module _ (some : (read_answer bytes came).rec.used ≡ 0 → ⊥) where
     rec : Record
@@ -240,7 +240,7 @@ module _ (bytes came : List ℕ) (o : read_outcome bytes came ≡ outcome.Accept
     holds = subst (λ (n : ℕ). rec.used ≤ n / 3) (read_length bytes came o) (used_fits rec.used ws (agreeing rec ws (read_agrees bytes came o)).table)
 
     pub read_again : (read_answer (file_for (read_answer bytes came).rec (read_table bytes came)) came ≡
-        record { outcome = outcome.Accepted; rec = read_back (read_answer bytes came).rec (read_table bytes came); line = 0 }) ×
+        record { outcome = Ok tt; rec = read_back (read_answer bytes came).rec (read_table bytes came); line = 0 }) ×
         (read_table (file_for (read_answer bytes came).rec (read_table bytes came)) came ≡ read_table bytes came)
     unfolding rec ws
     read_again =

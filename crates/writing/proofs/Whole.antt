@@ -29,8 +29,8 @@ use Rattle.frames.specs.declared.Frame.TheVariants.{Head as HeadFrame, End}
 use Rattle.frames.specs.Frames.{head_line, Fits, line_widths, line_length, ended_length, kind_of, line_of, ended_line, Written as WrittenLine}
 use Rattle.frames.proofs.Lines.{length_ended}
 use Rattle.frames.proofs.Rows.{length_fields}
-use Rattle.writing.specs.declared.WriteAnswer.{WriteAnswer}
-use Rattle.writing.specs.declared.WriteAnswer.TheVariants.{Written, Refused}
+use Rattle.std.specs.Prelude.{Err, Ok, Result}
+use Rattle.agreement.specs.declared.refusal.Refusal.{Refusal}
 use Rattle.writing.specs.Writing.{head_frame, s_frame, later_frames, s_frames, bytes_of, file_of, kept_head, file_for, write_answer, output_by}
 use Rattle.writing.proofs.Output.{tail_put, bytes_append, runs_few}
 
@@ -68,7 +68,6 @@ module _ (rec : Record) (ws : List ℕ) (a : agrees rec ws ≡ true) where
   head_fits =
       let h = facts.held.head in
       record {
-        known = refl;
         fields = (
           omega (arith, h.timescale),
           (
@@ -82,7 +81,7 @@ module _ (rec : Record) (ws : List ℕ) (a : agrees rec ws ≡ true) where
       }
 
   pub end_fits : Fits (End rec.used)
-  end_fits = record { known = refl; fields = (omega (arith, used_few), tt) }
+  end_fits = record { fields = (omega (arith, used_few), tt) }
 
   -- its lines, as they are written
   file_lines : file_for rec ws ≡ (ended_line (head_frame (kept_head rec)) ++ bytes_of (s_frames (runs_of rec.used ws))) ++ ended_line (End rec.used)
@@ -236,26 +235,26 @@ module _ (rec : Record) (ws : List ℕ) (a : agrees rec ws ≡ true) where
 -- ---- the refusals
 
 module _ (rec : Record) (ws out : List ℕ) (t : Bool) (e : t ≡ agrees rec ws) where
-  output_of : (x : WriteAnswer) → x ≡ write_answer rec ws (length out) → (y : List ℕ) → y ≡ output_by x (file_for rec ws) out →
+  output_of : (x : Result ℕ Refusal) → x ≡ write_answer rec ws (length out) → (y : List ℕ) → y ≡ output_by x (file_for rec ws) out →
       (x ≡ write_answer rec ws (length out)) × (y ≡ output_by (write_answer rec ws (length out)) (file_for rec ws) out)
   output_of x k y j = (k, j ∙ ap (λ z. output_by z (file_for rec ws) out) k)
 
   pub write_disagrees : not t ≡ true →
-      (Refused Disagreement ≡ write_answer rec ws (length out)) × (out ≡ output_by (write_answer rec ws (length out)) (file_for rec ws) out)
+      (Err Disagreement ≡ write_answer rec ws (length out)) × (out ≡ output_by (write_answer rec ws (length out)) (file_for rec ws) out)
   unfolding write_answer output_by
-  write_disagrees m = output_of (Refused Disagreement) (refused t _ _ _ e m) out refl
+  write_disagrees m = output_of (Err Disagreement) (refused t _ _ _ e m) out refl
 
   module _ (m : not t ≡ false) where
     write_agrees : agrees rec ws ≡ true
     write_agrees = told t _ e m
 
     pub write_nothing : rec.used ≡ 0 →
-        (Refused NothingKept ≡ write_answer rec ws (length out)) × (out ≡ output_by (write_answer rec ws (length out)) (file_for rec ws) out)
+        (Err NothingKept ≡ write_answer rec ws (length out)) × (out ≡ output_by (write_answer rec ws (length out)) (file_for rec ws) out)
     unfolding write_answer output_by
-    write_nothing z = output_of (Refused NothingKept) (allowed t _ _ _ _ e m (same _ _ _ _ z)) out refl
+    write_nothing z = output_of (Err NothingKept) (allowed t _ _ _ _ e m (same _ _ _ _ z)) out refl
 
     module _ (some : rec.used ≡ 0 → ⊥) where
-      kept_some : (x : WriteAnswer) → x ≡ cond (leb (length (file_for rec ws)) (length out)) (Written (length (file_for rec ws))) (Refused ShortOutput) →
+      kept_some : (x : Result ℕ Refusal) → x ≡ cond (leb (length (file_for rec ws)) (length out)) (Ok (length (file_for rec ws))) (Err ShortOutput) →
           x ≡ write_answer rec ws (length out)
       unfolding write_answer
       kept_some x k = allowed t _ _ _ _ e m (other _ _ _ _ _ some k)
@@ -270,17 +269,17 @@ module _ (rec : Record) (ws out : List ℕ) (t : Bool) (e : t ≡ agrees rec ws)
       write_total = record { fits = omega (arith, few_runs) }
 
       pub write_short : length out < ended_length 5 + ended_length 3 + ended_length 2 * rec.used →
-          (Refused ShortOutput ≡ write_answer rec ws (length out)) × (out ≡ output_by (write_answer rec ws (length out)) (file_for rec ws) out)
+          (Err ShortOutput ≡ write_answer rec ws (length out)) × (out ≡ output_by (write_answer rec ws (length out)) (file_for rec ws) out)
       unfolding output_by
       write_short l =
           let over : length out < length (file_for rec ws) = omega (arith, file_length rec ws write_agrees) in
-          output_of (Refused ShortOutput) (kept_some _ (above _ _ _ _ over)) out refl
+          output_of (Err ShortOutput) (kept_some _ (above _ _ _ _ over)) out refl
 
       module _ (l : ended_length 5 + ended_length 3 + ended_length 2 * rec.used ≤ length out) where
         pub write_asks : (agrees rec ws ≡ true) × (length (file_for rec ws) ≤ length out)
         write_asks = (write_agrees, omega (arith, file_length rec ws write_agrees))
 
         pub write_whole : (n : ℕ) (y : List ℕ) → (n ≡ length (file_for rec ws)) × (y ≡ file_for rec ws ++ drop n out) →
-            (Written n ≡ write_answer rec ws (length out)) × (y ≡ output_by (write_answer rec ws (length out)) (file_for rec ws) out)
+            (Ok n ≡ write_answer rec ws (length out)) × (y ≡ output_by (write_answer rec ws (length out)) (file_for rec ws) out)
         unfolding output_by
-        write_whole n y k = output_of (Written n) (kept_some _ (at_most _ _ _ _ _ write_asks.1 (ap Written k.0))) y k.1
+        write_whole n y k = output_of (Ok n) (kept_some _ (at_most _ _ _ _ _ write_asks.1 (ap Ok k.0))) y k.1

@@ -1,23 +1,21 @@
 -- Writing gives the head, with its update period and with the number of the first kept reference, one S line for each used run with t on the first only, and the end with the
 -- number of S lines. It is refused where record and table disagree, where no run is kept, and where the output is shorter than the whole file: then
 -- no byte changes. Paper: The file; Refusal numbers, 2, 12 and 15.
-use Rattle.std.specs.Prelude.{ℕ, ◌+◌, ◌-◌, List, [], ◌∷◌, ◌++◌, eqb, leb, length, drop}
+use Rattle.std.specs.Prelude.{Result, Err, Ok, ℕ, ◌+◌, ◌-◌, List, [], ◌∷◌, ◌++◌, eqb, leb, length, drop}
 use Rattle.window.specs.declared.Head.{Head}
 use Rattle.window.specs.Limits.{fields_of}
 use Rattle.window.specs.declared.Reference.{Reference}
 use Rattle.runs.specs.declared.Run.{Run}
 use Rattle.runs.specs.Encoding.{encode, runs_for}
 use Rattle.agreement.specs.declared.Record.{Record}
+use Rattle.agreement.specs.declared.refusal.Refusal.{Refusal}
 use Rattle.agreement.specs.declared.refusal.Refusal.TheVariants.{Disagreement, NothingKept, ShortOutput}
 use Rattle.agreement.specs.Agreement.{kept, agrees}
 use Rattle.agreement.specs.Rows.{◌unless◌else◌, ◌when◌else◌}
-use Rattle.agreement.specs.Numbers.{refusal_number}
 use Rattle.frames.specs.declared.Frame.{Frame}
 use Rattle.frames.specs.declared.Frame.TheVariants.{Head as HeadFrame, S, End}
 use Rattle.frames.specs.Fields.{all_ones}
 use Rattle.frames.specs.Frames.{head_line, ended_line}
-use Rattle.writing.specs.declared.WriteAnswer.{WriteAnswer}
-use Rattle.writing.specs.declared.WriteAnswer.TheVariants.{Written, Refused}
 
 -- a head whose first reference has another number
 abbrev pub with_first : Head → ℕ → Head
@@ -56,22 +54,17 @@ kept_head rec = with_first rec.head (rec.head.first.0 + rec.dropped)
 abbrev pub file_for : Record → List ℕ → List ℕ
 file_for rec ws = file_of (kept_head rec) (kept rec ws)
 
-unfoldable pub write_answer : Record → List ℕ → ℕ → WriteAnswer
+unfoldable pub write_answer : Record → List ℕ → ℕ → Result ℕ Refusal
 write_answer rec ws room =
-    Refused Disagreement unless agrees rec ws else
-    Refused NothingKept when eqb rec.used 0 else
-    Refused ShortOutput unless leb (length (file_for rec ws)) room else
-    Written (length (file_for rec ws))
-
--- the paper's number of an answer, 0 where the file is written
-abbrev pub write_number : WriteAnswer → ℕ
-write_number (Written n) = 0
-write_number (Refused why) = refusal_number why
+    Err Disagreement unless agrees rec ws else
+    Err NothingKept when eqb rec.used 0 else
+    Err ShortOutput unless leb (length (file_for rec ws)) room else
+    Ok (length (file_for rec ws))
 
 -- what stands behind the file stays as it came, and all of it where nothing is written
-unfoldable pub output_by : WriteAnswer → List ℕ → List ℕ → List ℕ
-output_by (Written n) bytes out = bytes ++ drop n out
-output_by (Refused why) bytes out = out
+unfoldable pub output_by : Result ℕ Refusal → List ℕ → List ℕ → List ℕ
+output_by (Ok n) bytes out = bytes ++ drop n out
+output_by (Err why) bytes out = out
 
 -- the record that a written file reads back as: the same references under the same numbers, none of them dropped, at clock 0
 abbrev pub read_back : Record → List ℕ → Record

@@ -1,39 +1,17 @@
-use mathlib.Core.Path.{◌≡◌, refl, sym, ◌∙◌, ap}
-use mathlib.Core.Bool.{Bool, true, false, not, ◌&&◌}
-use mathlib.Core.List.{List, []}
-use Prim.Native.Nat.{ℕ, ◌+◌, ◌≤◌, ◌<◌}
-use native.Mathlib.Numerals.{add-one}
-use native.Mathlib.Omega.{arith}
-use borrow.Author.Rules.{rules}
-use borrow.Author.Tests.{not-true, not-false}
-use lib.ListN.{length, get_or, drop}
-use lib.Seq.{drop-cons, drop-length}
+-- `are_digits` meets its contract: the test of every element is the definition's.
+use Rattle.std.proofs.Common.{◌≡◌, ap, refl, ◌∙◌, Bool, ◌&&◌, List, [], ◌∷◌, ℕ, rules}
+use Rattle.std.specs.List.{list_all}
+use Rattle.std.proofs.lemmas.Iterator.Search.{all_from_yields_List}
+use Rattle.std.proofs.lemmas.Iterator.{YieldsList-from_slice}
 use Rattle.hexdigits.specs.Digits.{is_digit, are_digits}
 use Rattle.hexdigits.proofs.are_digits.Goals as goal
 
-module _ (s : List ℕ) (i : ℕ) (h : i < length s) (e : are_digits (drop i s) ≡ are_digits s) (t : Bool) (d : t ≡ is_digit (get_or s i 0)) where
-  turn : are_digits s ≡ (t && are_digits (drop (i + 1) s))
-  unfolding are_digits
-  turn = sym e ∙ rw (drop-cons s i 0 h, add-one i, d)
-
-  found : not t ≡ true → false ≡ are_digits s
-  found n = sym (turn ∙ ap (λ (u : Bool). u && are_digits (drop (i + 1) s)) (not-true t n))
-
-  passed : not t ≡ false → are_digits (drop (i + 1) s) ≡ are_digits s
-  passed n = sym (turn ∙ ap (λ (u : Bool). u && are_digits (drop (i + 1) s)) (not-false t n))
-
-through : (s : List ℕ) (i : ℕ) → length s ≤ i → i ≤ length s → are_digits (drop i s) ≡ are_digits s → true ≡ are_digits s
+all_digits : (s : List ℕ) → list_all is_digit s ≡ are_digits s
 unfolding are_digits
-through s i l h e = rw (← e) (rw (drop_all) refl)
-  where
-    drop_all : drop i s ≡ []
-    drop_all = let n : i ≡ length s = omega arith in rw n (drop-length s)
-
-pub returns-then-not-is_digit : goal.returns-then-not-is_digit
-returns-then-not-is_digit c = search (rules, found)
-
-pub loop-i-preserved : goal.loop-i-preserved
-loop-i-preserved c = search (rules, passed)
+all_digits [] = refl
+all_digits (b ∷ s) = ap (λ (t : Bool). is_digit b && t) (all_digits s)
 
 pub returns : goal.returns
-returns c = search (rules, through)
+returns c =
+    let s = c.args.s.now in
+    all_from_yields_List is_digit _ _ c.all.result c.all.ensures.ran (YieldsList-from_slice s cc) (λ x b q k. search rules) ∙ all_digits s

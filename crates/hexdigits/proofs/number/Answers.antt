@@ -16,7 +16,7 @@ use Rattle.hexdigits.proofs.number.Goals as goal
 -- n is what the digits before i mean
 
 begun : (s : List ℕ) → Read s 0 0
-begun s = record { within = omega arith; small = omega arith; whole = rw (zero-mul (16 ^ length s)) (zero-add (number_of s)) }
+begun s = record { small = omega arith; whole = rw (zero-mul (16 ^ length s)) (zero-add (number_of s)) }
 
 module _ (s : List ℕ) (n i : ℕ) (r : Read s n i) where
   room : i < length s → length s ≤ 16 → n < 16 ^ 15
@@ -32,7 +32,6 @@ module _ (s : List ℕ) (n i : ℕ) (r : Read s n i) where
   unfolding number_of
   turn v h d =
       record {
-        within = omega arith;
         small = rw (add-one i, pow-suc 16 i, d) (digits_lt r.small (value_below (get_or s i 0)));
         whole =
             let rest = drop (suc i) s in
@@ -50,8 +49,8 @@ module _ (s : List ℕ) (n i : ℕ) (r : Read s n i) where
   done h =
       sym (mul-one n) ∙ sym (add-zero (n * 1)) ∙ (rw (drop_of_length-le s h) at r.whole)
 
-pub loop-i-init : goal.loop-i-init
-loop-i-init c = search (rules, begun)
+pub loop-b-init : goal.loop-b-init
+loop-b-init c = search (rules, begun)
 
 pub overflow_mul-n : goal.overflow_mul-n
 overflow_mul-n c = search (rules, moved_fits)
@@ -59,8 +58,8 @@ overflow_mul-n c = search (rules, moved_fits)
 pub overflow_add-n : goal.overflow_add-n
 overflow_add-n c = search (rules, joined_fits)
 
-pub loop-i-preserved : goal.loop-i-preserved
-loop-i-preserved c = search (rules, turn)
+pub loop-b-preserved : goal.loop-b-preserved
+loop-b-preserved c = search (rules, turn)
 
 pub returns : goal.returns
 returns c = search (rules, done)

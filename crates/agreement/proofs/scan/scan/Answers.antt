@@ -1,30 +1,34 @@
-use borrow.Author.Rules.{rules}
-use Rattle.agreement.proofs.Scanning.{scan_none, scan_unheld, scan_holds, scan_room, scan_apart, scan_broken, scan_fits, scan_again, scan_ends}
+use Rattle.std.proofs.Common.{sym, ap, ◌∙◌}
+use Rattle.runs.specs.Walk.{runs_left}
+use Rattle.agreement.proofs.Scanning.{scan_none, scan_unheld, scan_holds, scan_apart, scan_broken, scan_again, scan_ends}
 use Rattle.agreement.proofs.scan.scan.Goals as goal
+use Rattle.agreement.proofs.scan.scan.Goals.{then-not-joins-via-then-not-joins, then-not-joins-via-else-not-joins+then-not-held-2}
 
-pub returns-then-used-eq0 : goal.returns-then-used-eq0
-returns-then-used-eq0 c = search (rules, scan_none)
+pub returns-in_default : goal.returns-in_default
+returns-in_default c = scan_none _ (sym c.of-runs.ensures ∙ c.in_default.ensures.steps.0)
 
-pub returns-then-not-run_held : goal.returns-then-not-run_held
-returns-then-not-run_held c = search (rules, scan_unheld)
+pub returns-then-not-held : goal.returns-then-not-held
+returns-then-not-held c = scan_unheld _ _ _ (sym c.of-runs.ensures ∙ c.in-Some.ensures.steps) _ c.held.ensures c.if-not-held.true
 
-pub loop-left-init : goal.loop-left-init
-loop-left-init c = search (rules, scan_holds)
+pub loop-run-init : goal.loop-run-init
+loop-run-init c =
+    scan_holds _ _ _ (sym c.of-runs.ensures ∙ c.in-Some.ensures.steps) _ c.held.ensures c.if-not-held.false _
+    (ap runs_left c.into_iter-run-iterator.ensures.into_iter_gives)
 
-pub run_at-run-requires : goal.run_at-run-requires
-run_at-run-requires c = search (rules, scan_room)
+pub returns-then-not-joins : goal.returns-then-not-joins
+returns-then-not-joins c =
+    elim c.then-not-joins.branch [
+      | then-not-joins-via-then-not-joins w ↦
+          scan_apart _ _ _ _ _ c.loop-run.invariant _ _ c.in-Some-run.ensures.steps _ c.joins.ensures w.if-not-joins.true
+      | then-not-joins-via-else-not-joins+then-not-held-2 w ↦
+          scan_broken _ _ _ _ _ c.loop-run.invariant _ _ c.in-Some-run.ensures.steps _ c.joins.ensures w.if-not-joins.false
+          _ w.held-else-not-joins.ensures w.if-not-held-2.true
+    ]
 
-pub returns-then-not-run_joins : goal.returns-then-not-run_joins
-returns-then-not-run_joins c = search (rules, scan_apart)
-
-pub returns-then-not-run_held-2 : goal.returns-then-not-run_held-2
-returns-then-not-run_held-2 c = search (rules, scan_broken)
-
-pub overflow_add-total : goal.overflow_add-total
-overflow_add-total c = search (rules, scan_fits)
-
-pub loop-left-preserved : goal.loop-left-preserved
-loop-left-preserved c = search (rules, scan_again)
+pub loop-run-preserved : goal.loop-run-preserved
+loop-run-preserved c =
+    scan_again _ _ _ _ _ c.loop-run.invariant _ _ c.in-Some-run.ensures.steps _ c.joins.ensures c.if-not-joins.false
+    _ c.held-else-not-joins.ensures c.if-not-held-2.false
 
 pub returns : goal.returns
-returns c = search (rules, scan_ends)
+returns c = scan_ends _ _ _ _ _ c.loop-run.invariant c.in-None.ensures.steps.0 _ _ c.reference.ensures c.reference-2.ensures

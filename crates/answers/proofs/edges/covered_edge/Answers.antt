@@ -9,10 +9,13 @@ use Rattle.answers.proofs.edges.covered_edge.Goals as goal
 pub returns-then-not-agrees : goal.returns-then-not-agrees
 returns-then-not-agrees c = search (rules, refused)
 
+pub invariant_of-head : goal.invariant_of-head
+invariant_of-head c =
+    record { held = agree_head _ _ (told _ _ c.agrees.ensures (ap not c.if-not-agrees.false)) }
+
 pub edge_of-requires : goal.edge_of-requires
 edge_of-requires c =
-    let agreed = told _ _ c.agrees.ensures (ap not c.if-not-agrees.false) in
-    (agree_head _ _ agreed, (agreeing _ _ agreed).held.next)
+    (agreeing _ _ (told _ _ c.agrees.ensures (ap not c.if-not-agrees.false))).held.next
 
 pub returns : goal.returns
 returns c = search (rules, allowed)

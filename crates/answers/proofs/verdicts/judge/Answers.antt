@@ -2,5 +2,5 @@
 use Rattle.answers.proofs.Judging.{judge_nothing}
 use Rattle.answers.proofs.verdicts.judge.Goals as goal
 
-pub returns-in-Nothing : goal.returns-in-Nothing
-returns-in-Nothing c = judge_nothing _ _ c.in-Nothing.is
+pub returns-in-None : goal.returns-in-None
+returns-in-None c = judge_nothing _ _ c.in-None.is

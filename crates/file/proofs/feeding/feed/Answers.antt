@@ -1,40 +1,42 @@
-use borrow.Author.Rules.{rules}
-use Rattle.file.proofs.Turning.{unfed_reader, unfed_table, turn_none, end_within, end_fits, turn_ended, turn_unended, ended_less, unended_less, turned_reader, turned_table}
+use Rattle.std.proofs.Common.{ap, arith, rules}
 use mathlib.Core.Bool.{not}
-use mathlib.Core.Path.{ap}
+use Rattle.file.proofs.Turning.{unfed_reader, unfed_table, turn_none, end_within, end_fits, part_from, rest_less, turn_ended, turned_reader, turned_table}
 use Rattle.file.proofs.feeding.feed.Goals as goal
 
 pub returns-then-not-belongs : goal.returns-then-not-belongs
 returns-then-not-belongs c =
     let reader = c.args.reader in
-    record { value = unfed_reader reader _ _ c.belongs.ensures (ap not c.if-not-belongs.true) _; table_after = unfed_table reader _ _ c.belongs.ensures (ap not c.if-not-belongs.true) _ }
+    let no = ap not c.if-not-belongs.true in
+    record { value = unfed_reader reader _ _ c.belongs.ensures no _; table_after = unfed_table reader _ _ c.belongs.ensures no _ }
 
-pub loop-at-init : goal.loop-at-init
-loop-at-init c = search (rules, turn_none)
-
-pub overflow_add-end : goal.overflow_add-end
-overflow_add-end c = search (rules, end_fits)
+pub loop-end-init : goal.loop-end-init
+loop-end-init c = search (rules, turn_none)
 
 pub slice_bounds-more-end : goal.slice_bounds-more-end
-slice_bounds-more-end c = search (rules, end_within)
+slice_bounds-more-end c = search (rules, part_from, end_within)
 
-pub take_so_far-reading-requires : goal.take_so_far-reading-requires
-take_so_far-reading-requires c = search rules
+pub overflow_add-left : goal.overflow_add-left
+overflow_add-left c = end_fits _ _ c.feed_at.ensures _ c.in-Some.is c.args.piece.now c.loop-end.invariant.within (search rules)
 
-pub loop-at-smaller-then-end-piece : goal.loop-at-smaller-then-end-piece
-loop-at-smaller-then-end-piece c = search (rules, ended_less)
+pub slice_bounds-left-count : goal.slice_bounds-left-count
+slice_bounds-left-count c = omega (arith, end_within _ _ c.feed_at.ensures _ c.in-Some.is)
 
-pub loop-at-preserved-then-end-piece : goal.loop-at-preserved-then-end-piece
-loop-at-preserved-then-end-piece c =
-    turn_ended _ _ _ c.line_end.ensures _ _ _ _ _ c.loop-at.invariant _ c.more-line.ensures c.if-end-piece.true _ c.none-line.ensures _ _ (search rules) c.take_so_far-reading.ensures
+pub slice_bounds-left-start : goal.slice_bounds-left-start
+slice_bounds-left-start c = search (rules, end_within)
 
-pub loop-at-smaller : goal.loop-at-smaller
-loop-at-smaller c = search (rules, unended_less)
+pub loop-end-smaller : goal.loop-end-smaller
+loop-end-smaller c = rest_less _ _ c.feed_at.ensures _ c.in-Some.is
 
-pub loop-at-preserved : goal.loop-at-preserved
-loop-at-preserved c =
-    turn_unended _ _ _ c.line_end.ensures _ _ _ _ _ c.loop-at.invariant _ c.more-line.ensures c.if-end-piece.false
+pub loop-end-preserved : goal.loop-end-preserved
+loop-end-preserved c =
+    turn_ended _ _ c.feed_at.ensures _ c.in-Some.is _ _ _ _ _ _ c.loop-end.invariant _ c.more-line.ensures _ c.first_bytes.ensures _ c.none-line.ensures _ _ (search rules)
+    c.take_line-reading.ensures
 
 pub returns : goal.returns
 returns c =
-    let reader = c.args.reader in record { value = turned_reader reader _ _ _ _ _ _ c.loop-at.invariant c.loop-at-test.false _ c.belongs.ensures (ap not c.if-not-belongs.false); table_after = turned_table reader _ _ _ _ _ _ c.loop-at.invariant c.loop-at-test.false _ c.belongs.ensures (ap not c.if-not-belongs.false) }
+    let reader = c.args.reader in
+    let yes = ap not c.if-not-belongs.false in
+    record {
+      value = turned_reader _ _ c.feed_at.ensures c.in_default.is reader _ _ _ _ _ c.loop-end.invariant _ c.belongs.ensures yes _ c.more-line-2.ensures;
+      table_after = turned_table _ _ c.feed_at.ensures c.in_default.is reader _ _ _ _ _ c.loop-end.invariant _ c.belongs.ensures yes;
+    }

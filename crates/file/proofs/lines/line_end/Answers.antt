@@ -1,15 +1,7 @@
-use borrow.Author.Rules.{rules}
-use Rattle.file.proofs.Cuts.{sought_none, sought_found, sought_more, sought_all}
+-- `line_end` meets its contract, whether there is a feed or none.
+use Rattle.std.proofs.Common.{◌∙◌}
+use Rattle.file.proofs.Cuts.{end_is}
 use Rattle.file.proofs.lines.line_end.Goals as goal
 
-pub loop-i-init : goal.loop-i-init
-loop-i-init c = search (rules, sought_none)
-
-pub returns-then-bytes-i-eq10 : goal.returns-then-bytes-i-eq10
-returns-then-bytes-i-eq10 c = search (rules, sought_found)
-
-pub loop-i-preserved : goal.loop-i-preserved
-loop-i-preserved c = search (rules, sought_more)
-
 pub returns : goal.returns
-returns c = search (rules, sought_all)
+returns c = c.unwrap_or.ensures ∙ end_is c.args.bytes.now _ c.feed_at.ensures

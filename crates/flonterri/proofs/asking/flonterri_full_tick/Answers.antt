@@ -1,33 +1,25 @@
 -- `flonterri_full_tick` meets its contract: refused for a length, or what the answer tells.
-use borrow.Author.Rules.{rules}
 use Rattle.lookups.specs.Stamps.{full_tick_in}
-use Rattle.words.specs.Tells.{full_tick_tells}
-use Rattle.words.proofs.Lengths.{first_right, second_right}
+use Rattle.words.specs.Tells.{words_of_tick}
 use Rattle.flonterri.specs.Face.{tells_full_tick}
-use Rattle.flonterri.proofs.Facing.{tells_nothing, tells_by}
+use Rattle.flonterri.proofs.Facing.{room_told, silent_number, silent_out, looks_number, looks_out}
 use Rattle.flonterri.proofs.asking.flonterri_full_tick.Goals as goal
 
-pub returns-then-wrong-ne0 : goal.returns-then-wrong-ne0
+pub tell-requires : goal.tell-requires
+tell-requires c = room_told c.args.«record».now c.args.out.now 2 _ c.record_beside.ensures _ c.in-Ok.is _
+
+pub returns-in-Ok-clause-value : goal.returns-in-Ok-clause-value
 unfolding tells_full_tick
-returns-then-wrong-ne0 c =
-    let a = c.args in
-    let law = tells_nothing a.«record».now 2 a.out.now _ c.wrong_length-wrong.ensures full_tick_tells in
-    let k = c.if-wrong-ne0.true in
-    record { value = (law _ k).0; out_after = (law _ k).1 }
+returns-in-Ok-clause-value c = looks_number c.args.«record».now c.args.out.now 2 _ c.record_beside.ensures words_of_tick _ c.in-Ok.is (λ rec. full_tick_in rec c.args.table.now (record { 0 = c.args.stamp })) _ c.full_tick.ensures _ c.tell.ensures.value
 
-pub record_of-requires : goal.record_of-requires
-record_of-requires c = search (rules, first_right)
+pub returns-in-Ok-clause-out_after : goal.returns-in-Ok-clause-out_after
+unfolding tells_full_tick
+returns-in-Ok-clause-out_after c = looks_out c.args.«record».now c.args.out.now 2 _ c.record_beside.ensures words_of_tick _ c.in-Ok.is (λ rec. full_tick_in rec c.args.table.now (record { 0 = c.args.stamp })) _ c.full_tick.ensures _ c.tell.ensures.out_after
 
-pub tell_full_tick-requires : goal.tell_full_tick-requires
-tell_full_tick-requires c = search (rules, second_right)
+pub returns-in-Err-clause-value : goal.returns-in-Err-clause-value
+unfolding tells_full_tick
+returns-in-Err-clause-value c = silent_number c.args.«record».now c.args.out.now 2 _ c.record_beside.ensures words_of_tick _ c.in-Err.is _ _ c.number.ensures
 
-pub returns : goal.returns
-unfolding tells_full_tick full_tick_tells
-returns c =
-    let a = c.args in
-    let k =
-    tells_by a.«record».now 2 a.out.now _ c.wrong_length-wrong.ensures full_tick_tells
-    (λ rec. full_tick_in rec a.table.now (record { 0 = a.stamp })) c.if-wrong-ne0.false _ c.record_of.ensures _ c.full_tick-full.ensures _ _
-    c.tell_full_tick.ensures.value c.tell_full_tick.ensures.out_after
-    in
-    record { value = k.0; out_after = k.1 }
+pub returns-in-Err-clause-out_after : goal.returns-in-Err-clause-out_after
+unfolding tells_full_tick
+returns-in-Err-clause-out_after c = silent_out c.args.«record».now c.args.out.now 2 _ c.record_beside.ensures words_of_tick _ c.in-Err.is _

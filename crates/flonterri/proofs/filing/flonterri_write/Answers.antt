@@ -1,36 +1,33 @@
 -- `flonterri_write` meets its contract: refused for a length, or the writing's own answer.
-use borrow.Author.Rules.{rules}
-use lib.ListN.{length}
+use Rattle.std.specs.Prelude.{length}
 use Rattle.writing.specs.Writing.{write_answer, output_by, file_for}
-use Rattle.words.specs.Tells.{write_tells}
-use Rattle.words.proofs.Lengths.{first_right, second_right}
 use Rattle.flonterri.specs.Face.{writes}
-use Rattle.flonterri.proofs.Facing.{writes_nothing, writes_by_lem}
+use Rattle.flonterri.proofs.Facing.{room_told, unwritten_number, unwritten_bytes, unwritten_out, wrote_number, wrote_bytes, wrote_out}
 use Rattle.flonterri.proofs.filing.flonterri_write.Goals as goal
 
-pub returns-then-wrong-ne0 : goal.returns-then-wrong-ne0
+pub tell-requires : goal.tell-requires
+tell-requires c = room_told c.args.«record».now c.args.out.now 1 _ c.record_beside.ensures _ c.in-Ok.is _
+
+pub returns-in-Ok-clause-value : goal.returns-in-Ok-clause-value
 unfolding writes
-returns-then-wrong-ne0 c =
-    let a = c.args in
-    let law = writes_nothing a.«record».now a.bytes.now a.out.now _ c.wrong_length-wrong.ensures in
-    let k = c.if-wrong-ne0.true in
-    record { value = (law _ _ k).0; bytes_after = (law _ _ k).1.0; out_after = (law _ _ k).1.1 }
+returns-in-Ok-clause-value c = wrote_number c.args.«record».now c.args.bytes.now c.args.out.now _ c.record_beside.ensures _ c.in-Ok.is (λ rec. write_answer rec c.args.table.now (length c.args.bytes.now)) (λ rec. output_by (write_answer rec c.args.table.now (length c.args.bytes.now)) (file_for rec c.args.table.now) c.args.bytes.now) _ c.write.ensures.value _ c.tell.ensures.value
 
-pub record_of-requires : goal.record_of-requires
-record_of-requires c = search (rules, first_right)
+pub returns-in-Ok-clause-bytes_after : goal.returns-in-Ok-clause-bytes_after
+unfolding writes
+returns-in-Ok-clause-bytes_after c = wrote_bytes c.args.«record».now c.args.bytes.now c.args.out.now _ c.record_beside.ensures _ c.in-Ok.is (λ rec. write_answer rec c.args.table.now (length c.args.bytes.now)) (λ rec. output_by (write_answer rec c.args.table.now (length c.args.bytes.now)) (file_for rec c.args.table.now) c.args.bytes.now) _ c.write.ensures.value _ c.write.ensures.out_after
 
-pub tell_written-requires : goal.tell_written-requires
-tell_written-requires c = search (rules, second_right)
+pub returns-in-Ok-clause-out_after : goal.returns-in-Ok-clause-out_after
+unfolding writes
+returns-in-Ok-clause-out_after c = wrote_out c.args.«record».now c.args.bytes.now c.args.out.now _ c.record_beside.ensures _ c.in-Ok.is (λ rec. write_answer rec c.args.table.now (length c.args.bytes.now)) (λ rec. output_by (write_answer rec c.args.table.now (length c.args.bytes.now)) (file_for rec c.args.table.now) c.args.bytes.now) _ c.write.ensures.value _ c.tell.ensures.out_after
 
-pub returns : goal.returns
-unfolding writes write_tells
-returns c =
-    let a = c.args in
-    let bytes = a.bytes.now in
-    let ts = a.table.now in
-    let k =
-    writes_by_lem a.«record».now bytes a.out.now _ c.wrong_length-wrong.ensures (λ rec. write_answer rec ts (length bytes))
-    (λ rec. output_by (write_answer rec ts (length bytes)) (file_for rec ts) bytes) c.if-wrong-ne0.false _ c.record_of.ensures _ _
-    c.write-answer.ensures.value c.write-answer.ensures.out_after _ _ c.tell_written.ensures.value c.tell_written.ensures.out_after
-    in
-    record { value = k.0; bytes_after = k.1.0; out_after = k.1.1 }
+pub returns-in-Err-clause-value : goal.returns-in-Err-clause-value
+unfolding writes
+returns-in-Err-clause-value c = unwritten_number c.args.«record».now c.args.bytes.now c.args.out.now _ c.record_beside.ensures _ c.in-Err.is _ _ _ c.number.ensures
+
+pub returns-in-Err-clause-bytes_after : goal.returns-in-Err-clause-bytes_after
+unfolding writes
+returns-in-Err-clause-bytes_after c = unwritten_bytes c.args.«record».now c.args.bytes.now c.args.out.now _ c.record_beside.ensures _ c.in-Err.is _ _
+
+pub returns-in-Err-clause-out_after : goal.returns-in-Err-clause-out_after
+unfolding writes
+returns-in-Err-clause-out_after c = unwritten_out c.args.«record».now c.args.bytes.now c.args.out.now _ c.record_beside.ensures _ c.in-Err.is _ _

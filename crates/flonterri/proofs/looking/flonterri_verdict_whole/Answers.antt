@@ -1,33 +1,25 @@
 -- `flonterri_verdict_whole` meets its contract: refused for a length, or what the answer tells.
-use borrow.Author.Rules.{rules}
 use Rattle.answers.specs.Judgement.{verdict_whole}
-use Rattle.words.specs.Tells.{verdict_tells}
-use Rattle.words.proofs.Lengths.{first_right, second_right}
+use Rattle.words.specs.Tells.{words_of_verdict}
 use Rattle.flonterri.specs.Face.{tells_whole}
-use Rattle.flonterri.proofs.Facing.{tells_nothing, tells_by}
+use Rattle.flonterri.proofs.Facing.{room_told, silent_number, silent_out, looks_number, looks_out}
 use Rattle.flonterri.proofs.looking.flonterri_verdict_whole.Goals as goal
 
-pub returns-then-wrong-ne0 : goal.returns-then-wrong-ne0
+pub tell-requires : goal.tell-requires
+tell-requires c = room_told c.args.«record».now c.args.out.now 5 _ c.record_beside.ensures _ c.in-Ok.is _
+
+pub returns-in-Ok-clause-value : goal.returns-in-Ok-clause-value
 unfolding tells_whole
-returns-then-wrong-ne0 c =
-    let a = c.args in
-    let law = tells_nothing a.«record».now 5 a.out.now _ c.wrong_length-wrong.ensures verdict_tells in
-    let k = c.if-wrong-ne0.true in
-    record { value = (law _ k).0; out_after = (law _ k).1 }
+returns-in-Ok-clause-value c = looks_number c.args.«record».now c.args.out.now 5 _ c.record_beside.ensures words_of_verdict _ c.in-Ok.is (λ rec. verdict_whole rec c.args.table.now) _ c.verdict_whole.ensures _ c.tell.ensures.value
 
-pub record_of-requires : goal.record_of-requires
-record_of-requires c = search (rules, first_right)
+pub returns-in-Ok-clause-out_after : goal.returns-in-Ok-clause-out_after
+unfolding tells_whole
+returns-in-Ok-clause-out_after c = looks_out c.args.«record».now c.args.out.now 5 _ c.record_beside.ensures words_of_verdict _ c.in-Ok.is (λ rec. verdict_whole rec c.args.table.now) _ c.verdict_whole.ensures _ c.tell.ensures.out_after
 
-pub tell_verdict-requires : goal.tell_verdict-requires
-tell_verdict-requires c = search (rules, second_right)
+pub returns-in-Err-clause-value : goal.returns-in-Err-clause-value
+unfolding tells_whole
+returns-in-Err-clause-value c = silent_number c.args.«record».now c.args.out.now 5 _ c.record_beside.ensures words_of_verdict _ c.in-Err.is _ _ c.number.ensures
 
-pub returns : goal.returns
-unfolding tells_whole verdict_tells
-returns c =
-    let a = c.args in
-    let k =
-    tells_by a.«record».now 5 a.out.now _ c.wrong_length-wrong.ensures verdict_tells (λ rec. verdict_whole rec a.table.now)
-    c.if-wrong-ne0.false _ c.record_of.ensures _ c.verdict_whole-verdict.ensures _ _ c.tell_verdict.ensures.value
-    c.tell_verdict.ensures.out_after
-    in
-    record { value = k.0; out_after = k.1 }
+pub returns-in-Err-clause-out_after : goal.returns-in-Err-clause-out_after
+unfolding tells_whole
+returns-in-Err-clause-out_after c = silent_out c.args.«record».now c.args.out.now 5 _ c.record_beside.ensures words_of_verdict _ c.in-Err.is _

@@ -10,6 +10,9 @@ use Rattle.keeping.proofs.appending.keep_new.Goals as goal
 
 -- the places of the way that stores
 
+pub invariant_of-head : goal.invariant_of-head
+invariant_of-head c = search (rules, keep_asks)
+
 pub passed_ends-passed-requires : goal.passed_ends-passed-requires
 passed_ends-passed-requires c = search (rules, keep_asks)
 

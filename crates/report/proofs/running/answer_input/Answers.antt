@@ -4,7 +4,7 @@ use Rattle.report.proofs.Turns.{answered, answered_known}
 use Rattle.report.proofs.running.answer_input.Goals as goal
 
 pub returns-clause-answered : goal.returns-clause-answered
-returns-clause-answered g c = answered _ _ _ _ _ refl c.in_ok-fed.ensures.fed c.tell-count.ensures
+returns-clause-answered g c = answered _ _ _ _ _ refl c.in_ok-desk.ensures.fed c.tell-count.ensures
 
 pub returns-clause-known : goal.returns-clause-known
-returns-clause-known g c = answered_known _ _ _ _ _ _ refl c.in_ok-fed.ensures.known c.tell-count.ensures
+returns-clause-known g c = answered_known _ _ _ _ _ _ refl c.in_ok-desk.ensures.known c.tell-count.ensures

@@ -1,6 +1,6 @@
 -- The loop keeps its invariant, and each way out of it says what the reads came to.
 use Rattle.std.proofs.Common.{refl, ap, ◌<◌, length, take, arith}
-use Rattle.report.proofs.Turns.{turned_none, turned_more, left, on_failure, reads_ended, reads_settled, reads_failed, known_ended, known_settled, known_failed}
+use Rattle.report.proofs.Turns.{turned_none, turned_more, left, on_failure, reads_ended, reads_settled, known_ended, known_settled}
 use Rattle.report.proofs.running.feed_all.Goals as goal
 
 pub loop-init : goal.loop-init
@@ -32,8 +32,5 @@ loop-preserved g c =
     turned_more _ _ _ _ _ _ c.loop.invariant _ _ _ _ _ c.in_ok-count.ensures.bytes.0 c.read.auto.buf c.feed-desk.auto.table c.feed-desk.ensures.value
     c.feed-desk.ensures.table_after
 
-pub returns-clause-fed : goal.returns-clause-fed
-returns-clause-fed g c = reads_failed _ _ _ _ _ _ c.loop.invariant
-
-pub returns-clause-known : goal.returns-clause-known
-returns-clause-known g c = known_failed _ _ _ _ _ _ c.loop.invariant
+pub returns-clause-failed : goal.returns-clause-failed
+returns-clause-failed g c = (left _ _ _ _ _ _ c.loop.invariant)

@@ -1,24 +1,35 @@
-use borrow.Author.Rules.{rules}
-use Rattle.runs.proofs.Walking.{words_fit, place_there, cut_none, cut_more, cut_here, cut_all}
+use Rattle.std.proofs.Common.{ap, ◌∙◌, arith}
+use mathlib.Core.Logic.{inl}
+use Rattle.runs.proofs.Walking.{left_more, count_fits, cut_none, cut_more, cut_here, cut_all, first_fits, first_left}
+use Rattle.runs.specs.Walk.{runs_left}
 use Rattle.runs.proofs.table.cut_at.Goals as goal
 
 pub loop-whole-init : goal.loop-whole-init
-loop-whole-init c = (search rules, search (rules, cut_none))
+loop-whole-init c =
+    let it = c.into_iter-whole-iterator.ensures.into_iter_gives in
+    let count = ap (λ e. e.count) it ∙ c.enumerate-whole-items.ensures.count in
+    let left = ap (λ e. runs_left e.iter) it ∙ ap runs_left c.enumerate-whole-items.ensures.source ∙ c.of.ensures in
+    record {
+      can = (tt, tt, inl (first_fits _ _ _ _ count left c.ranges.used));
+      ends = tt;
+      left = first_left _ _ _ _ count left;
+      counted = cut_none _ _ _ count;
+    }
 
-pub overflow_mul-whole : goal.overflow_mul-whole
-overflow_mul-whole c = search (rules, words_fit)
-
-pub run_at-run-requires : goal.run_at-run-requires
-run_at-run-requires c = search (rules, place_there)
+pub loop-whole-preserved : goal.loop-whole-preserved
+loop-whole-preserved c =
+    let s = c.in-Some.ensures.steps in
+    record {
+      can = (tt, tt, inl (count_fits _ _ _ _ c.loop-whole.invariant.left _ _ s.0 _ s.2 c.ranges.used));
+      ends = tt;
+      left = left_more _ _ _ _ c.loop-whole.invariant.left _ _ s.0 _ s.2;
+      counted = cut_more _ _ _ _ c.loop-whole.invariant.left _ _ s.0 _ _ c.loop-whole.invariant.counted _ s.2 (omega (arith, c.if-into-run.false));
+    }
 
 pub returns-then-into-run : goal.returns-then-into-run
 returns-then-into-run c =
-    cut_here _ _ c.requires _ _ c.loop-whole-test.true c.run_at-run.ensures _ _
-    c.loop-whole.invariant.1
-    c.if-into-run.true
-
-pub loop-whole-preserved : goal.loop-whole-preserved
-loop-whole-preserved c = (search rules, search (rules, cut_more))
+    let s = c.in-Some.ensures.steps in
+    cut_here _ _ _ _ c.loop-whole.invariant.left _ _ s.0 _ _ c.loop-whole.invariant.counted _ s.1 c.if-into-run.true
 
 pub returns : goal.returns
-returns c = search (rules, cut_all)
+returns c = cut_all _ _ _ _ c.loop-whole.invariant.left _ _ c.loop-whole.invariant.counted c.in-None.ensures.steps.0.0

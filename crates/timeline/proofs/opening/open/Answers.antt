@@ -15,6 +15,6 @@ pub returns : goal.returns
 returns c =
     let f = c.args.fields in
     let t = c.args.first in
-    let opens = open_accepted f t _ c.new.ensures _ c.in-Made.is _ c.new-2.ensures _ c.in-Made-new.is in
-    let new = open_fresh f t _ c.new.ensures _ c.in-Made.is _ c.new-2.ensures _ c.in-Made-new.is _ c.fresh.ensures in
+    let opens = open_accepted f t _ c.new.ensures _ c.in-Some.is _ c.new-2.ensures _ c.in-Some-new.is in
+    let new = open_fresh f t _ c.new.ensures _ c.in-Some.is _ c.new-2.ensures _ c.in-Some-new.is _ c.fresh.ensures in
     record { value = answer_accepted _ _ _ opens _ new _ c.accepted.ensures; table_after = search (rules, words_accepted, opens) }
