@@ -89,16 +89,19 @@ fn open(numbers: Numbers) -> Call {
 }
 
 impl Call {
-    // By the first letter of the name; a comment begins with '#'.
+    // By the first letter of the name; a comment begins with '#', and its numbers are not read.
     pub(crate) fn of(line: &[u8]) -> Option<Call> {
+        let name = *line.first()?;
+        if name == b'#' {
+            return None;
+        }
         let numbers = numbers(line);
         let [_, a, b, c, d, ..] = numbers;
         let append = Change::Append(WideTick(a), low(b), low(c));
         let stamp = Change::Stamp(Stamp(low(a)), low(b), low(c));
         let pair = Change::Pair(Stamp(low(a)), low(b), low(c), WideMillis(d));
         let trim = Change::Trim(WideMillis(a));
-        Some(match line.first()? {
-            b'#' => return None,
+        Some(match name {
             b'o' => open(numbers),
             b'a' => Call::Change(append),
             b's' => Call::Change(stamp),

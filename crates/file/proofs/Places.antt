@@ -1,4 +1,5 @@
--- What each stage asks of the next line, as the code meets it, and what a line that is no frame comes to.
+-- Which frames may stand at a stage, what each stage asks of the next line, as the code meets it, and what a line that is no
+-- frame comes to.
 use mathlib.Core.Path.{◌≡◌, refl, sym, ap, ap₂, subst, ◌∙◌}
 use mathlib.Core.List.{List}
 use Prim.Native.Nat.{ℕ, ◌+◌, ◌^◌, ◌≤◌}
@@ -10,14 +11,66 @@ use Rattle.agreement.specs.declared.refusal.Refusal.TheVariants as refusal
 use Rattle.agreement.proofs.Agreeing.{agreeing}
 use Rattle.frames.specs.declared.Frame.{Frame}
 use Rattle.frames.specs.declared.Frame.TheVariants.{Head as HeadFrame, S, End, Clock}
+use Rattle.frames.specs.declared.HeadLine.{HeadLine}
 use Rattle.frames.specs.declared.SFields.{SFields}
 use Rattle.frames.specs.Frames.{Fits, frame_of}
 use Rattle.frames.proofs.Lines.{read_fits}
 use Rattle.file.specs.declared.Stage.{Stage}
 use Rattle.file.specs.declared.Stage.TheVariants.{Nothing, Headed, Open, Filled, Ended, Refused}
 use Rattle.file.specs.declared.Reading.{Reading}
-use Rattle.file.specs.Judging.{File, refused, take_first_s, on_nothing, on_headed, on_open, on_filled, on_frame, take_line}
+use Rattle.file.specs.Judging.{File, refused, misplaced, take_first_s, on_nothing, on_headed, on_open, on_filled, on_frame, take_line}
 use Rattle.file.specs.Sound.{Running, Begins, Narrow, Sound}
+
+-- ---- a frame that may not stand at the stage, and a line that is none
+
+module _ (r : Reading) (ws : List ℕ) where
+  not_head : (o : Option Frame) → ((h : HeadLine) → o ≡ Some (HeadFrame h) → ⊥) → refused (misplaced o) r ws ≡ on_nothing r ws o
+  unfolding on_nothing
+  not_head (Some (HeadFrame h)) k = absurd (k h refl)
+  not_head (Some (S s)) k = refl
+  not_head (Some (End n)) k = refl
+  not_head (Some (Clock c)) k = refl
+  not_head None k = refl
+
+  not_s : (o : Option Frame) → ((s : SFields) → o ≡ Some (S s) → ⊥) → refused (misplaced o) r ws ≡ on_headed r ws o
+  unfolding on_headed
+  not_s (Some (HeadFrame h)) k = refl
+  not_s (Some (S s)) k = absurd (k s refl)
+  not_s (Some (End n)) k = refl
+  not_s (Some (Clock c)) k = refl
+  not_s None k = refl
+
+  not_s_end : (o : Option Frame) → ((s : SFields) → o ≡ Some (S s) → ⊥) → ((n : ℕ) → o ≡ Some (End n) → ⊥) → refused (misplaced o) r ws ≡ on_open r ws o
+  unfolding on_open
+  not_s_end (Some (HeadFrame h)) k l = refl
+  not_s_end (Some (S s)) k l = absurd (k s refl)
+  not_s_end (Some (End n)) k l = absurd (l n refl)
+  not_s_end (Some (Clock c)) k l = refl
+  not_s_end None k l = refl
+
+  not_end : (o : Option Frame) → ((n : ℕ) → o ≡ Some (End n) → ⊥) → refused (misplaced o) r ws ≡ on_filled r ws o
+  unfolding on_filled
+  not_end (Some (HeadFrame h)) k = refl
+  not_end (Some (S s)) k = refl
+  not_end (Some (End n)) k = absurd (k n refl)
+  not_end (Some (Clock c)) k = refl
+  not_end None k = refl
+
+module _ (r : Reading) (o : Option Frame) (why : Refusal) (e : why ≡ misplaced o) (x : Reading) (k : x ≡ record { stage = Refused why; lines = r.lines; rec = r.rec }) where
+  refused_so : (ws : List ℕ) → ◌≡◌ {A = File} (record { reading = x; words = ws }) (refused (misplaced o) r ws)
+  refused_so ws = ap (λ y. record { reading = y; words = ws }) k ∙ ap (λ y. refused y r ws) e
+
+  pub nothing_misplaced : ((h : HeadLine) → o ≡ Some (HeadFrame h) → ⊥) → (ws : List ℕ) → ◌≡◌ {A = File} (record { reading = x; words = ws }) (on_nothing r ws o)
+  nothing_misplaced n ws = refused_so ws ∙ not_head r ws o n
+
+  pub headed_misplaced : (ws : List ℕ) → ((s : SFields) → o ≡ Some (S s) → ⊥) → ◌≡◌ {A = File} (record { reading = x; words = ws }) (on_headed r ws o)
+  headed_misplaced ws n = refused_so ws ∙ not_s r ws o n
+
+  pub open_misplaced : (ws : List ℕ) → ((s : SFields) → o ≡ Some (S s) → ⊥) → ((n : ℕ) → o ≡ Some (End n) → ⊥) → ◌≡◌ {A = File} (record { reading = x; words = ws }) (on_open r ws o)
+  open_misplaced ws n p = refused_so ws ∙ not_s_end r ws o n p
+
+  pub filled_misplaced : ((n : ℕ) → o ≡ Some (End n) → ⊥) → (ws : List ℕ) → ◌≡◌ {A = File} (record { reading = x; words = ws }) (on_filled r ws o)
+  filled_misplaced n ws = refused_so ws ∙ not_end r ws o n
 
 -- ---- an S line
 

@@ -1,11 +1,11 @@
 -- The turns of the loop that feeds a piece. What is left of the piece comes to the same, from where the reader is, as the whole piece from where it was.
 use mathlib.Core.Path.{◌≡◌, refl, sym, ap, ap₂, subst⁻¹, ◌∙◌}
 use mathlib.Core.Bool.{Bool, true, false, not, and-eq-true_iff}
-use mathlib.Core.List.{List, [], ◌++◌}
-use Prim.Native.Nat.{ℕ, ◌+◌, ◌-◌, ◌≤◌, ◌<◌}
+use mathlib.Core.List.{List, [], ◌∷◌, ◌++◌, append-nil}
+use Prim.Native.Nat.{ℕ, suc, ◌+◌, ◌-◌, ◌≤◌, ◌<◌}
 use native.Mathlib.Omega.{arith}
-use borrow.Author.Tests.{leb-true}
-use lib.Dec.{leb}
+use borrow.Author.Tests.{leb-true, eqb-true}
+use lib.Dec.{leb, eqb}
 use lib.ListN.{length, take, drop, length-drop}
 use lib.Seq.{take_all, length-take-le}
 use mir.Syntax.{w64}
@@ -18,11 +18,11 @@ use Rattle.file.specs.declared.LineSoFar.{LineSoFar}
 use Rattle.file.specs.declared.Reader.{Reader}
 use Rattle.file.specs.Lines.{first_line, behind_first, feed_at, lines_from, rest_from}
 use Rattle.file.specs.Judging.{File, take_line, take_lines}
-use Rattle.file.specs.SoFar.{most_bytes, so_far, first_bytes, goes_on, proper}
+use Rattle.file.specs.SoFar.{most_bytes, so_far, first_bytes, proper}
 use Rattle.file.specs.Feeding.{stage_held, belongs, fed_file, fed_reader, fed_table}
 use Rattle.file.specs.Sound.{Sound}
 use Rattle.file.proofs.Cuts.{line_is, behind_is, behind_less, feed_none, feed_some}
-use Rattle.file.proofs.SoFar.{same_line, first_bytes_lem, goes_on_lem, of_first}
+use Rattle.file.proofs.SoFar.{same_line, first_bytes_lem, of_first}
 use Rattle.file.proofs.Cutting.{no_line, lines_first, rest_first, unfed_unended, first_line_lem}
 use Rattle.file.proofs.Sounding.{stage_is, line_sound}
 
@@ -102,9 +102,10 @@ module _ (left : List ℕ) (at : Option ℕ) (e : at ≡ feed_at left) (n : ℕ)
   behind : take (length left - (n + 1)) (drop (n + 1) left) ≡ behind_first left
   behind = let found = feed_some left at e n is in rest_all ∙ ap (λ (k : ℕ). drop (k + 1) left) found.1 ∙ behind_is left found.0
 
-  module _ (x : Reader) (ws piece t : List ℕ) (r : Reading) (l : LineSoFar) (w : Turned x ws piece t r l left) (m : LineSoFar) (k : m ≡ goes_on l (take n left)) where
+  module _ (x : Reader) (ws piece t : List ℕ) (r : Reading) (l : LineSoFar) (w : Turned x ws piece t r l left) (m : LineSoFar)
+      (k : (come : List ℕ) → l ≡ so_far come → m ≡ so_far (come ++ take n left)) where
     ended : m ≡ so_far (w.come ++ first_line left)
-    ended = k ∙ ap₂ goes_on w.so_far_lem part_is ∙ goes_on_lem w.come (first_line left)
+    ended = k w.come w.so_far_lem ∙ ap (λ (bs : List ℕ). so_far (w.come ++ bs)) part_is
 
     pub turn_ended : (line : List ℕ) → line ≡ first_bytes m → (z : LineSoFar) → z ≡ so_far [] → (y : Reading) (ts : List ℕ) → length ts ≡ length t →
         record { reading = y; words = ts } ≡ take_line (record { reading = r; words = t }) line → Turned x ws piece ts y z (take (length left - (n + 1)) (drop (n + 1) left))
@@ -133,6 +134,11 @@ module _ (left : List ℕ) (at : Option ℕ) (e : at ≡ feed_at left) (n : ℕ)
 
 -- ---- the piece is fed: no feed is left
 
+-- and no byte either: the line so far is that of what has come
+pub nothing_left : (left : List ℕ) → true ≡ eqb (length left) 0 → (l : LineSoFar) (come : List ℕ) → l ≡ so_far come → l ≡ so_far (come ++ left)
+nothing_left [] e l come k = k ∙ ap so_far (sym (append-nil come))
+nothing_left (b ∷ bs) e l come k = absurd (omega (arith, eqb-true (suc (length bs)) 0 (sym e)))
+
 module _ (left : List ℕ) (at : Option ℕ) (e : at ≡ feed_at left) (none : at ≡ None) (x : Reader) (ws piece t : List ℕ) (r : Reading) (l : LineSoFar)
     (w : Turned x ws piece t r l left) where
   bare : (lines_from w.come left ≡ []) × (rest_from w.come left ≡ w.come ++ left)
@@ -143,13 +149,11 @@ module _ (left : List ℕ) (at : Option ℕ) (e : at ≡ feed_at left) (none : a
   last_file = ap (take_lines (record { reading = r; words = t })) (sym bare.0) ∙ w.file
 
   module _ (b : Bool) (k : b ≡ belongs x ws) (n : not b ≡ false) where
-    pub turned_reader : (m : LineSoFar) → m ≡ goes_on l left → ◌≡◌ {A = Reader} (record { reading = r; line = m }) (fed_reader x ws piece)
+    pub turned_reader : (m : LineSoFar) → ((come : List ℕ) → l ≡ so_far come → m ≡ so_far (come ++ left)) → ◌≡◌ {A = Reader} (record { reading = r; line = m }) (fed_reader x ws piece)
     unfolding fed_reader
     turned_reader m g =
         let last_line : m ≡ so_far (rest_from (first_bytes x.line) piece) =
-        g ∙
-        ap (λ (y : LineSoFar). goes_on y left) w.so_far_lem ∙
-        goes_on_lem w.come left ∙
+        g w.come w.so_far_lem ∙
         same_line (w.come ++ left) (rest_from (first_bytes x.line) piece) (ap (take most_bytes) (sym bare.1) ∙ w.rest)
         in
         allowed b _ _ _ _ k n (ap₂ (λ (f : File) (y : LineSoFar). record { reading = f.reading; line = y }) last_file last_line)

@@ -65,7 +65,8 @@ impl Reader {
     }
 }
 
-// Feeds one piece more. A reader that does not belong to the table comes back as it came.
+// Feeds one piece more. A reader that does not belong to the table comes back as it came. Each round takes
+// what is left up to a feed, and counts no place; one that belongs has a proper line, so a part goes behind it.
 pub fn feed(reader: Reader, table: &mut [u64], piece: &[u8]) -> Reader
     ensures value { result ≡ fed_reader reader table.old piece.now }
     ensures table_after { table.new ≡ fed_table reader table.old piece.now }
@@ -79,12 +80,14 @@ pub fn feed(reader: Reader, table: &mut [u64], piece: &[u8]) -> Reader
     } = reader;
     let mut left = piece;
     while let Some(end) = lines::feed_at(left) {
-        line = line.more(&left[..end]);
+        line = line.with(&left[..end]);
         reading = reading.take_line(table, line.first_bytes());
         line = LineSoFar::none();
         left = &left[end + 1..];
     }
-    line = line.more(left);
+    if !left.is_empty() {
+        line = line.with(left);
+    }
     Reader { reading, line }
 }
 

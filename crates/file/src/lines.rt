@@ -63,7 +63,7 @@ impl LineSoFar {
     }
 
     // A part behind a line so far, as much of it as there is room for.
-    fn with(self, part: &[u8]) -> LineSoFar
+    pub(crate) fn with(self, part: &[u8]) -> LineSoFar
         ensures { (come : List ℕ) → self ≡ so_far come → result ≡ so_far (come ++ part.now) }
     {
         let mut bytes = self.bytes;

@@ -1,6 +1,7 @@
 -- The contracts leave no room: those that are equations by the definition that both outcomes equal, and those that are properties by
 -- the law that the property has one answer.
-use mathlib.Core.Path.{◌≡◌, sym, ap, ap₂, ◌∙◌}
+use mathlib.Core.Path.{◌≡◌, sym, ap, ap₂, subst, ◌∙◌}
+use mathlib.Core.List.{[], Mem, not-mem-nil}
 use Prim.Native.Nat.{ℕ}
 use Rattle.window.proofs.Unique.{one_passed, one_needed, one_least}
 use Rattle.laws.specs.Unique.{Entry, Lending, Entries, AnyAnswer, Inner}
@@ -150,10 +151,16 @@ entries =
       tick_against = equation;
     }
 
+-- what borrows nothing has nothing that must be there
+nowhere : {X : Type 0} {b : ℕ} → Mem b [] → X
+nowhere m = absurd (not-mem-nil m)
+
 pub any_answer : AnyAnswer
 any_answer =
     record {
+      any_number_input = λ A L none κs a b m. nowhere (subst (Mem b) none m);
       any_number = λ A L κs a x y e f p q. same p q;
+      any_distance_input = λ A L none κs a b m. nowhere (subst (Mem b) none m);
       any_distance = λ A L κs a x y e f p q. same p q;
       any_told = λ W n T LW F LT CW CT KW m G o KT r κs a x y e f p q. same p.0 q.0;
       any_told_words = λ W n T LW F LT CW CT KW m G o KT r κs a x y e f p q. same p.1 q.1;

@@ -6,7 +6,7 @@ use denote.RattleType.{RattleType}
 use denote.Param.Laws.{Laws}
 use Rattle.runs.specs.declared.walk.Runs.{Runs}
 use Rattle.runs.specs.Walk.{runs_left}
-use Rattle.std.specs.Prelude.{◌≡◌}
+use Rattle.std.specs.Prelude.{◌≡◌, []}
 use Rattle.std.specs.Borrow.{Bor, MutBor}
 use Rattle.units.proofs as units
 use Rattle.window.proofs as window
@@ -246,10 +246,13 @@ pub record Entries : Type 0 where
   pub stamp_full : Entry units.Stamp.full.Reads.Asked units.Stamp.full.Reads.Learnt
   pub tick_against : Entry units.standing.WideTickStart.against.Reads.Asked units.standing.WideTickStart.against.Reads.Learnt
 
--- the same of an answer of any kind T: its number and its distance, which ask only that what the answer borrows is there yet, and what
--- is told of it, in n words of the kind W, where callers show that out has n. The other parameters are what W, n and T bring with them.
+-- the same of an answer of any kind T: its number and its distance, which take any input where the answer borrows nothing, and else ask
+-- only that what it borrows is there yet; and what is told of it, in n words of the kind W, where callers show that out has n. The
+-- other parameters are what W, n and T bring with them.
 pub record AnyAnswer : Type 2 where
+  pub any_number_input : (A : RattleType) (L : Laws A) → A.lives ≡ [] → AnyInput (agreement.number_of.Reads.Asked A L)
   pub any_number : (A : RattleType) (L : Laws A) → OneResult (agreement.number_of.Reads.Learnt A L)
+  pub any_distance_input : (A : RattleType) (L : Laws A) → A.lives ≡ [] → AnyInput (agreement.distance_of.Reads.Asked A L)
   pub any_distance : (A : RattleType) (L : Laws A) → OneResult (agreement.distance_of.Reads.Learnt A L)
   pub any_told : (W : RattleType) (n : _) (T : RattleType) (LW : _) (F : _) (LT : _) (CW : _) (CT : _) (KW : _) (p : _) (G : _) (q : _) (KT : _) (r : _) →
       OneResult (words.tell.Reads.Learnt W n T LW F LT CW CT KW p G q KT r)

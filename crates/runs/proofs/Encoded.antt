@@ -17,7 +17,7 @@ use Rattle.window.specs.Window.{end_of}
 use Rattle.window.specs.References.{EndToStart, Each}
 use Rattle.runs.specs.declared.Run.{Run}
 use Rattle.runs.specs.Words.{run_end, repeated, references_of}
-use Rattle.runs.specs.Encoding.{push, encode, runs_for}
+use Rattle.runs.specs.Encoding.{single, push, encode, runs_for}
 use Rattle.runs.specs.Shape.{run_held, followed_by, runs_shaped}
 use Rattle.runs.specs.Ends.{Within}
 
@@ -262,3 +262,45 @@ unfolding encode
 runs_drop zero rs = le_refl (runs_for rs)
 runs_drop (suc n) [] = le_refl 0
 runs_drop (suc n) (r ∷ rs) = le_trans (runs_drop n rs) (push_grows r (encode rs))
+
+-- ---- a front part takes no more runs than the whole
+
+-- runs that are no more than others, and begin with a run of the same duration
+abbrev Under : List Run → List Run → Type 0
+Under [] ys = Unit {0}
+Under (x ∷ xs) [] = ⊥
+Under (x ∷ xs) (y ∷ ys) = (x.span.0 ≡ y.span.0) × (length xs ≤ length ys)
+
+under_fewer : (xs ys : List Run) → Under xs ys → length xs ≤ length ys
+under_fewer [] ys u = omega arith
+under_fewer (x ∷ xs) [] u = absurd u
+under_fewer (x ∷ xs) (y ∷ ys) u = omega (arith, u.1)
+
+-- a run of a reference and of those of a run behind it
+abbrev widened : Reference → Run → Run
+widened r x = record { start = r.start; span = r.span; count = x.count + 1 }
+
+push_under : (r : Reference) (xs ys : List Run) → Under xs ys → Under (push r xs) (push r ys)
+unfolding push
+push_under r [] [] u = (refl, le_refl 0)
+push_under r [] (y ∷ ys) u = go (eqb r.span.0 y.span.0)
+  where
+    go : (b : Bool) → Under (single r ∷ []) (cond b (widened r y ∷ ys) (single r ∷ y ∷ ys))
+    go true = (refl, omega arith)
+    go false = (refl, omega arith)
+push_under r (x ∷ xs) [] u = absurd u
+push_under r (x ∷ xs) (y ∷ ys) u =
+    subst (λ (d : ℕ). Under (push r (x ∷ xs)) (cond (eqb r.span.0 d) (widened r y ∷ ys) (single r ∷ y ∷ ys))) u.0
+    (go (eqb r.span.0 x.span.0))
+  where
+    go : (b : Bool) → Under (cond b (widened r x ∷ xs) (single r ∷ x ∷ xs)) (cond b (widened r y ∷ ys) (single r ∷ y ∷ ys))
+    go true = (refl, u.1)
+    go false = (refl, omega (arith, u.1))
+
+front_under : (xs ys : List Reference) → Under (encode xs) (encode (xs ++ ys))
+unfolding encode
+front_under [] ys = tt
+front_under (r ∷ xs) ys = push_under r (encode xs) (encode (xs ++ ys)) (front_under xs ys)
+
+pub runs_prefix : (xs ys : List Reference) → runs_for xs ≤ runs_for (xs ++ ys)
+runs_prefix xs ys = under_fewer (encode xs) (encode (xs ++ ys)) (front_under xs ys)
