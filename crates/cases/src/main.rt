@@ -15,7 +15,7 @@ mod steps;
 
 use look::look;
 use show::show;
-use steps::{Call, Change};
+use steps::{Call, Change, name_of};
 
 // A record and the table that it speaks of.
 #[derive(Drop)]
@@ -80,13 +80,10 @@ impl<'a> Kept<'a> {
         self.take(out, Changed { outcome, rec })
     }
 
-    fn step(&mut self, out: &impl Print, line: &[u8]) -> io::Result<()> {
-        let Some(call) = Call::of(line) else {
-            return Ok(());
-        };
+    fn step(&mut self, out: &impl Print, name: u8, line: &[u8]) -> io::Result<()> {
         out.write_all(line)?;
         print!(out; ":")?;
-        match call {
+        match Call::of(name, line) {
             Call::Open(fields, first) => {
                 let changed = timeline::open(fields, first, self.table);
                 self.take(out, changed)
@@ -111,7 +108,9 @@ fn run(out: &impl Print, table: &mut [u64], steps: &[u8]) -> io::Result<()> {
     let rec = timeline::zero_record();
     let mut kept = Kept { rec, table };
     for line in steps.split(|byte| *byte == b'\n') {
-        kept.step(out, line)?;
+        if let Some(name) = name_of(line) {
+            kept.step(out, name, line)?;
+        }
     }
     Ok(())
 }

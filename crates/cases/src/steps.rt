@@ -88,20 +88,25 @@ fn open(numbers: Numbers) -> Call {
     Call::Open(fields, WideTick(tick))
 }
 
+// The first letter of a step's name. An empty line is no step, and neither is a comment, which begins
+// with '#'.
+pub(crate) fn name_of(line: &[u8]) -> Option<u8> {
+    match line.first() {
+        None | Some(b'#') => None,
+        Some(name) => Some(*name),
+    }
+}
+
 impl Call {
-    // By the first letter of the name; a comment begins with '#', and its numbers are not read.
-    pub(crate) fn of(line: &[u8]) -> Option<Call> {
-        let name = *line.first()?;
-        if name == b'#' {
-            return None;
-        }
+    // By the first letter of its name.
+    pub(crate) fn of(name: u8, line: &[u8]) -> Call {
         let numbers = numbers(line);
         let [_, a, b, c, d, ..] = numbers;
         let append = Change::Append(WideTick(a), low(b), low(c));
         let stamp = Change::Stamp(Stamp(low(a)), low(b), low(c));
         let pair = Change::Pair(Stamp(low(a)), low(b), low(c), WideMillis(d));
         let trim = Change::Trim(WideMillis(a));
-        Some(match name {
+        match name {
             b'o' => open(numbers),
             b'a' => Call::Change(append),
             b's' => Call::Change(stamp),
@@ -117,6 +122,6 @@ impl Call {
             b'n' => Call::Look(Look::Number(WideNumber(a))),
             b'r' => Call::Look(Look::Runs(WideTick(a), WideTick(b))),
             _ => Call::Look(Look::Clock(WideNumber(a), WideMillis(b))),
-        })
+        }
     }
 }
